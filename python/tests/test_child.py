@@ -22,8 +22,10 @@ while True:
     {said}
     said("REFUSED 17" if line.startswith("OFFSET") else "INDEX 5")
 """
+# (under nohup a child begins with SIGHUP ignored)
 HOLDER = """
-import sys, time
+import signal, sys, time
+signal.signal(signal.SIGHUP, signal.SIG_DFL)
 sys.path.insert(0, {package!r})
 from transyt.session import Session
 town = Session({deck!r}, 1, {program!r})
@@ -114,6 +116,7 @@ class Signals(support.Played):
         code = HOLDER.format(package=package, deck=support.THREE, program=program, then=then)
         holder = subprocess.Popen([sys.executable, "-c", code], stdout=subprocess.PIPE, stderr=subprocess.PIPE)
         self.addCleanup(holder.communicate)
+        self.addCleanup(holder.kill)
         assert holder.stdout is not None
         return holder, int(holder.stdout.readline())
 
