@@ -125,7 +125,8 @@ impl Desks {
         self.in_step = count;
     }
 
-    /// Lets every other desk stand for the network of desk 0. It takes no memory, and does nothing with one desk.
+    /// Lets every other desk stand for the network of desk 0, each in a thread that `rt` forks. It takes no memory, and
+    /// does nothing with one desk.
     pub fn align<R: Threads + Sync, L: Ledger>(&mut self, rt: &R, steps: &mut Steps<L>)
         requires alike { AreAlike self.old }
         ensures aligned { AreAligned self.new }

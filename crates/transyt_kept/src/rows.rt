@@ -22,6 +22,9 @@ use transyt_delay::Figures;
 /// Sweeps count from 0, which is the uniform start, and links in card order from 0. A profile has one value for each
 /// step of the cycle. That a link has profiles which repeat each cycle is from LR 253; the sweeps and the mark are this
 /// project's own.
+///
+/// Rows know no network: the calls that read one (`open`, `place`, `start`, `reweigh`) are the trait `RowsOfNetwork` of
+/// transyt_sweep.
 pub struct Rows {
     step_count: usize,
     sweeps: u32,
