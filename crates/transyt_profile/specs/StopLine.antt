@@ -58,6 +58,14 @@ abbrev pub turn : List ℕ → List ℕ → (begin : ℕ) → ℕ → ℕ
 turn arrivals go begin zero = begin
 turn arrivals go begin (suc i) = turn arrivals go begin i + slice_index arrivals i - slice_index go i
 
+-- The queue after each step of such a turn, and the departures in each. No public clause cites it.
+pub record AreOfTurn (arrivals go : List ℕ) (begin : ℕ) (queue out : List ℕ) : Type 0 where
+  pub queue_len : length queue ≡ length arrivals
+  pub out_len : length out ≡ length arrivals
+  pub queue_is : (i : ℕ) → i < length arrivals → slice_index queue i ≡ turn arrivals go begin (i + 1)
+  pub out_is : (i : ℕ) → i < length arrivals
+      → slice_index out i + turn arrivals go begin (i + 1) ≡ turn arrivals go begin i + slice_index arrivals i
+
 -- the stopped arrivals of a cycle: all of each step that ends with a queue
 abbrev pub stopped_of : List ℕ → List ℕ → ℕ
 stopped_of arrivals queue =

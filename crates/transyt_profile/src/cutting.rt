@@ -4,7 +4,8 @@ ghost use Rattle.std.specs.Prelude.{◌≡◌, ℕ, ◌^◌, ◌*◌, ◌<◌, �
 ghost use Rattle.transyt_profile.specs.StopLine.{arrivals_of, scaled};
 
 use crate::cut_totals::Totals;
-use crate::ratio::Ratio;
+use crate::flow::Flow;
+use crate::scaling::{NearScaling, Scaling};
 use crate::total;
 use transyt_num::{divided_near, mul_div};
 
@@ -25,7 +26,8 @@ pub fn cut_arrivals(x: &[u64], go: &[u64], out: &mut [u64])
     ensures no_more { (i : ℕ) → slice_index out.new i ≤ slice_index x.now i }
     ensures small { All (λ v. v < 2 ^ 48) out.new }
 {
-    if !cut(x, go, out).more_comes() {
+    let flow = Flow { arrivals: x, go };
+    if !cut(&flow, out).more_comes() {
         out.copy_from_slice(x);
     }
 }
@@ -33,83 +35,81 @@ pub fn cut_arrivals(x: &[u64], go: &[u64], out: &mut [u64])
 /// Writes the arrivals after the cut only where they are above GO, and answers both sums, which say whether they are.
 /// Else the arrivals stay as they are, and nobody need copy them: `out` then holds nothing of use.
 ///
-/// The slices and the rule are those of `cut_arrivals`.
+/// `out` has one value for each step of the cycle, and the rule is that of `cut_arrivals`.
 #[tactic(auto, using(crate::proofs::CutLaws::arrivals_total, crate::proofs::CutLaws::arrivals_small))]
-pub fn cut(x: &[u64], go: &[u64], out: &mut [u64]) -> Totals
-    requires most { length x.now ≤ 120 }
-    requires go_len { length go.now ≡ length x.now }
-    requires out_len { length out.old ≡ length x.now }
-    requires fit { All (λ v. v < 2 ^ 48) x.now }
-    requires go_fit { All (λ v. v < 2 ^ 30) go.now }
-    ensures arrivals { result.arrivals ≡ sum x.now }
-    ensures go { result.go ≡ sum go.now }
-    ensures cut { result.go < result.arrivals → out.new ≡ arrivals_of x.now go.now }
-    ensures uncut { result.arrivals ≤ result.go → x.now ≡ arrivals_of x.now go.now }
-    ensures total { sum (arrivals_of x.now go.now) ≤ sum go.now }
-    ensures small { All (λ v. v < 2 ^ 48) (arrivals_of x.now go.now) }
+pub fn cut(flow: &Flow<'_>, out: &mut [u64]) -> Totals
+    requires { length out.old ≡ length flow.now.arrivals.now }
+    ensures arrivals { result.arrivals ≡ sum flow.now.arrivals.now }
+    ensures go { result.go ≡ sum flow.now.go.now }
+    ensures cut { result.go < result.arrivals
+        → out.new ≡ arrivals_of flow.now.arrivals.now flow.now.go.now }
+    ensures uncut { result.arrivals ≤ result.go
+        → flow.now.arrivals.now ≡ arrivals_of flow.now.arrivals.now flow.now.go.now }
+    ensures total { sum (arrivals_of flow.now.arrivals.now flow.now.go.now) ≤ sum flow.now.go.now }
+    ensures small { All (λ v. v < 2 ^ 48) (arrivals_of flow.now.arrivals.now flow.now.go.now) }
 {
     let totals = Totals {
-        arrivals: total(x),
-        go: total(go),
+        arrivals: total(flow.arrivals),
+        go: total(flow.go),
     };
     if totals.more_comes() {
-        let ratio = Ratio {
-            go: totals.go,
+        let scaling = Scaling {
+            profile: flow.arrivals,
             arrivals: totals.arrivals,
+            go: totals.go,
         };
-        scale(x, ratio, out);
+        scale(&scaling, out);
     }
     totals
 }
 
-/// Scales each step down by a ratio, that of the sum of all steps.
+/// Scales each step down to its part of GO.
 #[tactic(auto, using(crate::proofs::CutLaws::step_within))]
-fn scale(x: &[u64], ratio: Ratio, out: &mut [u64])
-    requires lengths { length out.old ≡ length x.now }
-    requires whole { ratio.arrivals ≡ sum x.now }
-    ensures { (k : ℕ) → k < length x.now
-        → slice_index out.new k ≡ scaled ratio.arrivals ratio.go (slice_index x.now k) }
+fn scale(scaling: &Scaling<'_>, out: &mut [u64])
+    requires { length out.old ≡ length scaling.now.profile.now }
+    ensures { (k : ℕ) → k < length scaling.now.profile.now → slice_index out.new k
+        ≡ scaled scaling.now.arrivals scaling.now.go (slice_index scaling.now.profile.now k) }
 {
-    if ratio.arrivals < 1 << 32 {
-        scale_near(x, ratio, out);
+    let scaling = *scaling;
+    if scaling.arrivals < 1 << 32 {
+        let near = u64::MAX / scaling.arrivals;
+        scale_near(&NearScaling { scaling, near }, out);
         return;
     }
+    let x = scaling.profile;
     for step in 0..x.len() {
-        out[step] = scale_one(x[step], ratio);
+        out[step] = scale_one(&scaling, x[step]);
     }
 }
 
-/// The same with one division for all steps, where the sum has 32 bits.
+/// The same with one division for all steps.
 #[tactic(auto, using(crate::proofs::CutLaws::step_within))]
-fn scale_near(x: &[u64], ratio: Ratio, out: &mut [u64])
-    requires lengths { length out.old ≡ length x.now }
-    requires whole { ratio.arrivals ≡ sum x.now }
-    requires fits { ratio.arrivals < 2 ^ 32 }
-    ensures { (k : ℕ) → k < length x.now
-        → slice_index out.new k ≡ scaled ratio.arrivals ratio.go (slice_index x.now k) }
+fn scale_near(near: &NearScaling<'_>, out: &mut [u64])
+    requires { length out.old ≡ length near.now.scaling.profile.now }
+    ensures { (k : ℕ) → k < length near.now.scaling.profile.now → slice_index out.new k
+        ≡ scaled near.now.scaling.arrivals near.now.scaling.go (slice_index near.now.scaling.profile.now k) }
 {
-    let near = u64::MAX / ratio.arrivals;
+    let near = *near;
+    let x = near.scaling.profile;
     for step in 0..x.len() {
-        out[step] = scaled_near(x[step], ratio, near);
+        out[step] = scale_one_near(&near, x[step]);
     }
 }
 
 /// One step scaled down, by a number near the reciprocal of the arrivals' sum.
 #[tactic(auto, using(crate::proofs::CutLaws::product_fits))]
-fn scaled_near(value: u64, ratio: Ratio, near: u64) -> u64
-    requires value { value ≤ ratio.arrivals }
-    requires fits { ratio.arrivals < 2 ^ 32 }
-    requires near { near * ratio.arrivals < 2 ^ 64 }
-    ensures { result ≡ scaled ratio.arrivals ratio.go value }
+fn scale_one_near(near: &NearScaling<'_>, value: u64) -> u64
+    requires { value ≤ near.now.scaling.arrivals }
+    ensures { result ≡ scaled near.now.scaling.arrivals near.now.scaling.go value }
 {
-    divided_near(value * ratio.go, ratio.arrivals, near)
+    divided_near(value * near.scaling.go, near.scaling.arrivals, near.near)
 }
 
 /// One step scaled down, by a division.
 #[tactic(auto, using(crate::proofs::CutLaws::scaled_part))]
-fn scale_one(value: u64, ratio: Ratio) -> u64
-    requires { value ≤ ratio.arrivals }
-    ensures { result ≡ scaled ratio.arrivals ratio.go value }
+fn scale_one(scaling: &Scaling<'_>, value: u64) -> u64
+    requires { value ≤ scaling.now.arrivals }
+    ensures { result ≡ scaled scaling.now.arrivals scaling.now.go value }
 {
-    mul_div(value, ratio.go, ratio.arrivals) as u64
+    mul_div(value, scaling.go, scaling.arrivals) as u64
 }

@@ -4,13 +4,13 @@ ghost use Rattle.std.specs.Prelude.{◌≡◌, ◌^◌, ◌<◌, ◌≤◌, leng
 
 /// The arrivals at a stop line and its GO, one value for each step of the cycle, in millionths of a vehicle.
 #[derive(Clone, Copy)]
-pub(crate) struct Flow<'a> {
+pub struct Flow<'a> {
     /// The arrivals.
-    pub(crate) arrivals: &'a [u64],
+    pub arrivals: &'a [u64],
     /// GO.
-    pub(crate) go: &'a [u64],
-    ghost most: { length arrivals.now ≤ 120 },
-    ghost go_len: { length go.now ≡ length arrivals.now },
-    ghost arrivals_fit: { All (λ v. v < 2 ^ 48) arrivals.now },
-    ghost go_fit: { All (λ v. v < 2 ^ 30) go.now },
+    pub go: &'a [u64],
+    pub ghost most: { length arrivals.now ≤ 120 },
+    pub ghost go_len: { length go.now ≡ length arrivals.now },
+    pub ghost arrivals_fit: { All (λ v. v < 2 ^ 48) arrivals.now },
+    pub ghost go_fit: { All (λ v. v < 2 ^ 30) go.now },
 }

@@ -2,7 +2,7 @@
 
 ghost use Rattle.std.specs.Prelude.{◌≡◌, ℕ, ◌+◌, ◌-◌, ◌*◌, ◌^◌, ◌<◌, ◌≤◌, length, sum, slice_index, All};
 ghost use Rattle.transyt_cycle.specs.Cycle.{step_before};
-ghost use Rattle.transyt_profile.specs.StopLine.{IsQueue, outs, queues, turn};
+ghost use Rattle.transyt_profile.specs.StopLine.{AreOfTurn, IsQueue, outs, queues, turn};
 
 use crate::flow::Flow;
 
@@ -40,67 +40,55 @@ pub fn queue(arrivals: &[u64], go: &[u64], queue: &mut [u64], out: &mut [u64])
     ensures out_small { All (λ v. v < 2 ^ 30) out.new }
 {
     let flow = Flow { arrivals, go };
-    let left = first_turn(&flow, queue, out);
-    second_turn(&flow, left, queue, out);
+    let left = flow.first_turn(queue, out);
+    flow.second_turn(left, queue, out);
 }
 
-/// Once round the cycle from an empty queue. The answer is the queue left then, that of every later cycle at its last
-/// step.
-#[tactic(auto, using(crate::proofs::QueueLaws::turn_more))]
-fn first_turn(flow: &Flow<'_>, queue: &mut [u64], out: &mut [u64]) -> u64
-    requires queue_len { length queue.old ≡ length flow.now.arrivals.now }
-    requires out_len { length out.old ≡ length flow.now.arrivals.now }
-    ensures left { result
-        ≡ turn flow.now.arrivals.now flow.now.go.now 0 (length flow.now.arrivals.now) }
-    ensures small { result ≤ length flow.now.arrivals.now * 2 ^ 48 }
-    ensures queue { (i : ℕ) → i < length flow.now.arrivals.now
-        → slice_index queue.new i ≡ turn flow.now.arrivals.now flow.now.go.now 0 (i + 1) }
-    ensures out { (i : ℕ) → i < length flow.now.arrivals.now
-        → slice_index out.new i + turn flow.now.arrivals.now flow.now.go.now 0 (i + 1)
-        ≡ turn flow.now.arrivals.now flow.now.go.now 0 i + slice_index flow.now.arrivals.now i }
-{
-    let Flow { arrivals, go } = *flow;
-    let mut waiting: u64 = 0;
-    for i in 0..arrivals.len() {
-        let present = waiting + arrivals[i];
-        let leaving = present.min(go[i]);
-        waiting = present - leaving;
-        queue[i] = waiting;
-        out[i] = leaving;
+impl Flow<'_> {
+    /// Once round the cycle from an empty queue. The answer is the queue left then, that of every later cycle at its last
+    /// step.
+    #[tactic(auto, using(crate::proofs::QueueLaws::turn_more))]
+    fn first_turn(&self, queue: &mut [u64], out: &mut [u64]) -> u64
+        requires queue_len { length queue.old ≡ length self.now.arrivals.now }
+        requires out_len { length out.old ≡ length self.now.arrivals.now }
+        ensures left { result
+            ≡ turn self.now.arrivals.now self.now.go.now 0 (length self.now.arrivals.now) }
+        ensures small { result ≤ length self.now.arrivals.now * 2 ^ 48 }
+        ensures are { AreOfTurn self.now.arrivals.now self.now.go.now 0 queue.new out.new }
+    {
+        let Flow { arrivals, go } = *self;
+        let mut waiting: u64 = 0;
+        for i in 0..arrivals.len() {
+            let present = waiting + arrivals[i];
+            let leaving = present.min(go[i]);
+            waiting = present - leaving;
+            queue[i] = waiting;
+            out[i] = leaving;
+        }
+        waiting
     }
-    waiting
-}
 
-/// Round the cycle again, from the queue that was left, up to a step with the queue of the first turn: from there on
-/// the two turns are the same.
-#[tactic(auto, using(crate::proofs::QueueLaws::turn_more))]
-fn second_turn(flow: &Flow<'_>, left: u64, queue: &mut [u64], out: &mut [u64])
-    requires queue_len { length queue.old ≡ length flow.now.arrivals.now }
-    requires out_len { length out.old ≡ length flow.now.arrivals.now }
-    requires small { left ≤ length flow.now.arrivals.now * 2 ^ 48 }
-    requires queue { (i : ℕ) → i < length flow.now.arrivals.now
-        → slice_index queue.old i ≡ turn flow.now.arrivals.now flow.now.go.now 0 (i + 1) }
-    requires out { (i : ℕ) → i < length flow.now.arrivals.now
-        → slice_index out.old i + turn flow.now.arrivals.now flow.now.go.now 0 (i + 1)
-        ≡ turn flow.now.arrivals.now flow.now.go.now 0 i + slice_index flow.now.arrivals.now i }
-    ensures queue { (i : ℕ) → i < length flow.now.arrivals.now
-        → slice_index queue.new i ≡ turn flow.now.arrivals.now flow.now.go.now left (i + 1) }
-    ensures out { (i : ℕ) → i < length flow.now.arrivals.now
-        → slice_index out.new i + turn flow.now.arrivals.now flow.now.go.now left (i + 1)
-        ≡ turn flow.now.arrivals.now flow.now.go.now left i + slice_index flow.now.arrivals.now i }
-{
-    if left == 0 {
-        return;
-    }
-    let Flow { arrivals, go } = *flow;
-    let mut standing = left;
-    for i in 0..arrivals.len() {
-        let there = standing + arrivals[i];
-        standing = there.saturating_sub(go[i]);
-        out[i] = there - standing;
-        if standing == queue[i] {
+    /// Round the cycle again, from the queue that was left, up to a step with the queue of the first turn: from there on
+    /// the two turns are the same.
+    #[tactic(auto, using(crate::proofs::QueueLaws::turn_more))]
+    fn second_turn(&self, left: u64, queue: &mut [u64], out: &mut [u64])
+        requires small { left ≤ length self.now.arrivals.now * 2 ^ 48 }
+        requires first { AreOfTurn self.now.arrivals.now self.now.go.now 0 queue.old out.old }
+        ensures { AreOfTurn self.now.arrivals.now self.now.go.now left queue.new out.new }
+    {
+        if left == 0 {
             return;
         }
-        queue[i] = standing;
+        let Flow { arrivals, go } = *self;
+        let mut standing = left;
+        for i in 0..arrivals.len() {
+            let there = standing + arrivals[i];
+            standing = there.saturating_sub(go[i]);
+            out[i] = there - standing;
+            if standing == queue[i] {
+                return;
+            }
+            queue[i] = standing;
+        }
     }
 }

@@ -16,7 +16,7 @@ use crate::sending::link_place;
 use std::sync::ledger::Ledger;
 use transyt_kept::Rows;
 use transyt_net::Net;
-use transyt_profile::{Totals, cut, queue};
+use transyt_profile::{Flow, Totals, cut, queue};
 use transyt_stage::{fill_go, give_way};
 use transyt_steps::Steps;
 
@@ -71,7 +71,11 @@ fn work_out_queue(rows: &mut CellRows) -> Totals
         ≡ outs (arrivals_of rows.new.arrivals.items rows.new.go.items) rows.new.go.items }
     ensures totals { AreTotals rows.new result }
 {
-    let totals = cut(&rows.arrivals, &rows.go, &mut rows.cut);
+    let flow = Flow {
+        arrivals: &rows.arrivals,
+        go: &rows.go,
+    };
+    let totals = cut(&flow, &mut rows.cut);
     if totals.more_comes() {
         queue(&rows.cut, &rows.go, &mut rows.queue, &mut rows.departures);
     } else {

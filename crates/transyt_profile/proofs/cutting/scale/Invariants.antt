@@ -5,5 +5,5 @@ use Rattle.transyt_profile.proofs.cutting.scale.Given as goal
 
 -- the steps passed are scaled
 abbrev pub invariant-loop-step : goal.invariant-loop-step
-invariant-loop-step l =
-    (k : ℕ) → k < l.step → get_or l.out k 0 ≡ scaled l.ratio.arrivals l.ratio.go (get_or l.x k 0)
+invariant-loop-step l = (k : ℕ) → k < l.step
+    → get_or l.out k 0 ≡ scaled l.scaling.arrivals l.scaling.go (get_or l.scaling.profile.now k 0)

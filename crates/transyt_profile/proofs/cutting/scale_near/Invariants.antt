@@ -5,4 +5,5 @@ use Rattle.transyt_profile.proofs.cutting.scale_near.Given as goal
 
 -- the steps passed are scaled
 abbrev pub invariant-loop-step : goal.invariant-loop-step
-invariant-loop-step l = (k : ℕ) → k < l.step → get_or l.out k 0 ≡ scaled l.ratio.arrivals l.ratio.go (get_or l.x k 0)
+invariant-loop-step l = (k : ℕ) → k < l.step
+    → get_or l.out k 0 ≡ scaled l.near.scaling.arrivals l.near.scaling.go (get_or l.near.scaling.profile.now k 0)

@@ -20,11 +20,11 @@ returns c =
     let out : List ℕ = c.second_turn.new.out in
     let r = c.requires in
     let queue_is_at : (k : ℕ) → k < n → get_or queue k 0 ≡ queue_at a g k = λ k below.
-    c.second_turn.ensures.queue k below
+    c.second_turn.ensures.queue_is k below
     ∙ (second_is a g c.first_turn-left.result k r.go_len r.served below c.first_turn-left.ensures.left).1 in
     let out_is_at : (k : ℕ) → k < n → get_or out k 0 ≡ out_at a g k = λ k below.
     let at = second_is a g c.first_turn-left.result k r.go_len r.served below c.first_turn-left.ensures.left in
-    omega (arith, c.second_turn.ensures.out k below, at.0, at.1) in
+    omega (arith, c.second_turn.ensures.out_is k below, at.0, at.1) in
     let outs_are = fill_by_all (out_at a g) out n 0 (omega arith) out_is_at in
     let more = λ (i : ℕ) (below : i < n). queue_more a g i r.go_len r.served below in
     record {

@@ -1,7 +1,7 @@
 -- The recurrence goes round the cycle once more, and writes over the first turn.
 use Rattle.std.proofs.Common.{◌≡◌, ℕ, ◌+◌, ◌*◌, ◌^◌, ◌<◌, ◌≤◌, length, get_or}
 use Rattle.transyt_profile.specs.StopLine.{turn}
-use Rattle.transyt_profile.proofs.queueing.second_turn.Given as goal
+use Rattle.transyt_profile.proofs.flow.Flow.second_turn.Given as goal
 
 -- the queue after i steps; the steps passed are written, and the others are as the first turn left them
 abbrev pub invariant-loop-i : goal.invariant-loop-i

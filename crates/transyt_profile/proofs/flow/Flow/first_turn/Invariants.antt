@@ -1,7 +1,7 @@
 -- The recurrence goes round the cycle from an empty queue.
 use Rattle.std.proofs.Common.{◌≡◌, ℕ, ◌+◌, ◌*◌, ◌^◌, ◌<◌, ◌≤◌, get_or}
 use Rattle.transyt_profile.specs.StopLine.{turn}
-use Rattle.transyt_profile.proofs.queueing.first_turn.Given as goal
+use Rattle.transyt_profile.proofs.flow.Flow.first_turn.Given as goal
 
 -- the queue after i steps; the steps passed are written
 abbrev pub invariant-loop-i : goal.invariant-loop-i
