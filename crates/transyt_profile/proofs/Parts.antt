@@ -1,10 +1,8 @@
 -- The mean of two numbers by a reciprocal.
 use Rattle.std.proofs.Common.{◌≡◌, ℕ, ◌+◌, ◌-◌, ◌*◌, ◌/◌, ◌^◌, ◌<◌, ◌≤◌, ap, ◌∙◌, arith}
-use Rattle.std.proofs.lemmas.Nat.{mul-le}
 use Rattle.std.proofs.Math.Nat.{mul-le-mul_left, mul-le-mul_right, mul-lt-mul_of_pos_right}
 use Rattle.transyt_num.proofs.ReciprocalLaws.{by_reciprocal}
 use Rattle.transyt_profile.specs.Platoon.{mixed}
-use Rattle.transyt_profile.specs.Travels.{IsTravel}
 use Rattle.transyt_profile.specs.declared.travel.Travel.{Travel}
 
 -- the sum that is divided is below a power of 2 where numbers below `most` are mixed
@@ -26,14 +24,13 @@ mixed_by w by x z most p least close room x_fits z_fits =
     ∙ by_reciprocal (100 * x + w * z) (100 + w) by p (omega arith) least close (parts_fit w x z most p room x_fits z_fits)
 
 -- the products of a travel fit
-pub travel_sum : (n : ℕ) (m : Travel) (x z : ℕ) → IsTravel n m → x < m.limit → z < m.limit
+pub travel_sum : (m : Travel) (x z : ℕ) → x < m.limit → z < m.limit
     → x * m.starting_factor + z * m.before_factor < 2 ^ 63
-travel_sum n m x z is x_fits z_fits =
+travel_sum m x z x_fits z_fits =
     let w : ℕ = m.weight in
     let by : ℕ = m.reciprocal in
-    let weight : m.percent * m.time ≤ 100 * 960 = mul-le m.percent m.time 100 960 is.percent is.time in
     let first : x * (100 * by) ≤ m.limit * (100 * by) = mul-le-mul_right (100 * by) (omega arith) in
     let second : z * (w * by) ≤ m.limit * (w * by) = mul-le-mul_right (w * by) (omega arith) in
-    let both : m.limit * (by * (100 + w)) ≤ 4194304 * (by * (100 + w)) = mul-le-mul_right (by * (100 + w)) is.small in
+    let both : m.limit * (by * (100 + w)) ≤ 4194304 * (by * (100 + w)) = mul-le-mul_right (by * (100 + w)) m.limit_fits in
     let apart : m.limit * (by * (100 + w)) ≡ m.limit * (100 * by) + m.limit * (w * by) = omega arith in
-    rw (is.starting_factor, is.before_factor) (omega (arith, first, second, both, apart, weight, is.weight, is.close))
+    rw (m.is_starting, m.is_before) (omega (arith, first, second, both, apart, m.weight_fits, m.close))

@@ -17,13 +17,13 @@ length-sent p = length-map p.leaving.now (share_of p.part.now.part p.part.now.wh
 -- one step of the first turn
 pub first_gone : (p : Platoon) (i : ℕ) → i < steps_of p
     → mixed p.travel.now.weight (get_or (sent p) i 0) (gone_by p i) ≡ gone_by p (i + 1)
-first_gone p i below = rw p.is_travel.weight (sym (first_next (sent p) _ i (omega (arith, below, length-sent p))))
+first_gone p i below = rw p.travel.now.is_weight (sym (first_next (sent p) _ i (omega (arith, below, length-sent p))))
 
 -- one step of the second turn
 pub second_gone : (p : Platoon) (i : ℕ) → i < steps_of p
     → mixed p.travel.now.weight (get_or (sent p) i 0) (gone_by p (steps_of p + i)) ≡ gone_by p (steps_of p + 1 + i)
 second_gone p i below =
-    rw (← length-sent p, p.is_travel.weight) (sym (second_next (sent p) _ i (omega (arith, below, length-sent p))))
+    rw (← length-sent p, p.travel.now.is_weight) (sym (second_next (sent p) _ i (omega (arith, below, length-sent p))))
 
 -- the value that went by after as many steps
 pub passed_at : (p : Platoon) (i j : ℕ) (g : Passing) → i ≡ j → HasPassed p i g → HasPassed p j g
@@ -37,4 +37,4 @@ sent_fits p i fits below = fits i 0 (omega (arith, below, length-sent p))
 pub step_fits : (p : Platoon) (i value factor : ℕ) → Fits p → i < steps_of p → factor ≡ p.travel.now.before_factor
     → value < p.travel.now.limit → product_at p i + value * factor < 2 ^ 63
 step_fits p i value factor fits below is before =
-    rw is (travel_sum _ p.travel.now _ value p.is_travel (sent_fits p i fits below) before)
+    rw is (travel_sum p.travel.now _ value (sent_fits p i fits below) before)

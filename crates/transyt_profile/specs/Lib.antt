@@ -2,7 +2,6 @@ pub mod Profile
 pub mod WorkedProfiles
 pub mod Platoon
 pub mod Passing
-pub mod Travels
 pub mod Arriving
 pub mod WorkedPlatoons
 pub mod StopLine

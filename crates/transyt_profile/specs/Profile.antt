@@ -1,8 +1,7 @@
 -- Profiles: lists with one value for each step of the cycle, and parts of them.
 use Rattle.std.specs.Prelude.{ℕ, ◌+◌, ◌*◌, ◌/◌, ◌==◌, List, length, map, replicate, slice_index, if◌then◌else◌, ◌≡◌}
-use Rattle.std.specs.Prelude.{◌^◌, ◌<◌, ◌≤◌, true}
+use Rattle.std.specs.Prelude.{◌^◌, ◌<◌, ◌≤◌}
 use Rattle.std.specs.List.{range_with_len}
-use Rattle.transyt_profile.specs.declared.sharing.Part.{Part}
 
 -- the profile with this value at each step
 abbrev pub uniform : ℕ → ℕ → List ℕ
@@ -29,15 +28,9 @@ abbrev pub shared : ℕ → ℕ → List ℕ → List ℕ
 shared part whole xs = map (share_of part whole) xs
 
 -- a product by the factor takes the place of a division: the factor is the part times the reciprocal of the whole
-pub record IsQuick (p : Part) : Type 0 where
-  pub fits : p.part ≤ 9999
-  pub some : 1 < p.whole
-  pub whole : p.whole < 2 ^ 20
-  pub least : 2 ^ 64 ≤ p.reciprocal * p.whole
-  pub close : p.reciprocal * p.whole < 2 ^ 64 + p.whole
-  pub factor : p.factor ≡ p.part * p.reciprocal
-
--- where it says that a product serves, it does
-pub record IsPart (p : Part) : Type 0 where
-  pub fits : p.part ≤ 9999
-  pub quick : p.quick ≡ true → IsQuick p
+pub record IsQuick (part whole reciprocal factor : ℕ) : Type 0 where
+  pub some : 1 < whole
+  pub fits : whole < 2 ^ 20
+  pub least : 2 ^ 64 ≤ reciprocal * whole
+  pub close : reciprocal * whole < 2 ^ 64 + whole
+  pub is : factor ≡ part * reciprocal

@@ -7,19 +7,6 @@ ghost use Rattle.transyt_profile.specs.Passing.{Placed};
 use crate::dispersion::{Journey, after};
 use transyt_num::reciprocal;
 
-/// A number below which a `Mixer` mixes values with `weight`.
-pub(crate) fn most_of(weight: u64) -> u64
-    requires { weight ≤ 96000 }
-    ensures fits { result * (100 + weight) * (100 + weight) ≤ 2 ^ 64 }
-    ensures small { result < 2 ^ 44 }
-{
-    if weight <= 8000 {
-        274877906944
-    } else {
-        1073741824
-    }
-}
-
 /// A journey that takes time and disperses, and whose values leave room for products.
 #[derive(Clone, Copy)]
 pub(crate) struct Quick<'a> {
@@ -28,11 +15,10 @@ pub(crate) struct Quick<'a> {
     /// The sum of its profile is below this, and so is each value.
     pub(crate) most: u64,
     ghost fit: { sum journey.now.profile.now < most },
-    ghost room: { most * (100 + journey.now.percent * journey.now.time)
-        * (100 + journey.now.percent * journey.now.time) ≤ 2 ^ 64 },
+    ghost room: { most * (100 + journey.now.weight) * (100 + journey.now.weight) ≤ 2 ^ 64 },
     ghost most_fits: { most < 2 ^ 44 },
-    ghost some_travel: { 0 < journey.now.time },
-    ghost some_percent: { 0 < journey.now.percent },
+    ghost some_travel: { 0 < journey.now.spread.time },
+    ghost some_percent: { 0 < journey.now.spread.percent },
 }
 
 /// The factors of `travel_by`, which take the place of a division.
@@ -61,10 +47,10 @@ struct Mixer {
 impl Mixer {
     /// Those of a journey.
     fn new(quick: &Quick<'_>) -> Mixer
-        ensures weight { result.weight ≡ quick.now.journey.now.percent * quick.now.journey.now.time }
+        ensures weight { result.weight ≡ quick.now.journey.now.weight }
         ensures most { result.most ≡ quick.now.most }
     {
-        let weight = u64::from(quick.journey.percent) * u64::from(quick.journey.time);
+        let weight = quick.journey.weight;
         let reciprocal = reciprocal(100 + weight);
         Mixer {
             weight,
@@ -91,8 +77,8 @@ impl Mixer {
 /// Twice round the cycle by products: the second turn is written.
 pub(crate) fn travel_by(quick: &Quick<'_>, out: &mut [u64])
     requires { length quick.now.journey.now.profile.now ≡ length out.old }
-    ensures { Placed quick.now.journey.now.profile.now out.new quick.now.journey.now.time
-        quick.now.journey.now.percent (length quick.now.journey.now.profile.now) }
+    ensures { Placed quick.now.journey.now.profile.now out.new quick.now.journey.now.spread.time
+        quick.now.journey.now.spread.percent (length quick.now.journey.now.profile.now) }
 {
     let journey = quick.journey;
     let x = journey.profile;
@@ -101,7 +87,7 @@ pub(crate) fn travel_by(quick: &Quick<'_>, out: &mut [u64])
     'first: for i in 0..x.len() {
         value = mixer.mix(x[i], value);
     }
-    let mut place = journey.time as usize % x.len();
+    let mut place = journey.spread.time as usize % x.len();
     'second: for i in 0..x.len() {
         value = mixer.mix(x[i], value);
         out[place] = value;

@@ -1,8 +1,6 @@
 //! A platoon that is to set out.
 
-ghost use Rattle.std.specs.Prelude.{◌^◌, ◌<◌, length, All};
-ghost use Rattle.transyt_profile.specs.Profile.{IsPart};
-ghost use Rattle.transyt_profile.specs.Travels.{IsTravel};
+ghost use Rattle.std.specs.Prelude.{◌≡◌, ◌%◌, ◌^◌, ◌<◌, length, All};
 
 use crate::Part;
 use crate::travel::Travel;
@@ -19,6 +17,5 @@ pub struct Platoon<'a> {
     /// How it travels.
     pub travel: &'a Travel,
     ghost leaving_fit: { All (λ v. v < 2 ^ 30) leaving.now },
-    ghost is_part: { IsPart part.now },
-    ghost is_travel: { IsTravel (length leaving.now) travel.now },
+    ghost place: { travel.now.place ≡ travel.now.time % length leaving.now },
 }

@@ -1,8 +1,8 @@
 //! The part of a profile that goes on to one link, made ready for its travel.
 
-ghost use Rattle.std.specs.Prelude.{◌≡◌, ℕ, ◌+◌, ◌*◌, ◌^◌, ◌<◌, ◌≤◌, bit_or, fold, length, slice_index, sum, All, Any};
+ghost use Rattle.std.specs.Prelude.{◌≡◌, ℕ, ◌+◌, ◌*◌, ◌^◌, ◌<◌, ◌≤◌, bit_or, fold, length, slice_index, sum, true, All, Any};
 ghost use Rattle.std.specs.Prelude.{IfNone, IfSome};
-ghost use Rattle.transyt_profile.specs.Profile.{IsPart, IsQuick, share_of, shared};
+ghost use Rattle.transyt_profile.specs.Profile.{share_of, shared};
 
 use crate::sharing::{Part, product, share_step};
 
@@ -31,7 +31,6 @@ pub fn share_ready(x: &[u64], part: &Part, lane: Lane, lanes: &mut [u64]) -> Opt
     requires most { length x.now ≤ 120 }
     requires lanes_len { length lanes.old ≡ 4 * length x.now }
     requires fit { All (λ v. v < 2 ^ 30) x.now }
-    requires is { IsPart part.now }
     ensures below { IfSome result (λ _.
         All (λ v. v < lane.limit) (shared part.now.part part.now.whole x.now)) }
     ensures ready { IfSome result (λ _. (k : ℕ) → k < length x.now
@@ -73,7 +72,7 @@ fn share_below(x: &[u64], part: &Part, lane: Lane, lanes: &mut [u64]) -> Option<
     requires most { length x.now ≤ 120 }
     requires lanes_len { length lanes.old ≡ 4 * length x.now }
     requires fit { All (λ v. v < 2 ^ 30) x.now }
-    requires quick { IsQuick part.now }
+    requires quick { part.now.quick ≡ true }
     ensures below { IfSome result (λ _.
         All (λ v. v < lane.limit) (shared part.now.part part.now.whole x.now)) }
     ensures ready { IfSome result (λ _. (k : ℕ) → k < length x.now

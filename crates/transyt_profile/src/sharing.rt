@@ -1,7 +1,7 @@
 //! The part of a profile that goes on to one link.
 
-ghost use Rattle.std.specs.Prelude.{◌≡◌, ◌+◌, ◌*◌, ◌^◌, ◌<◌, ◌≤◌, length, All};
-ghost use Rattle.transyt_profile.specs.Profile.{share_of, shared, IsPart, IsQuick};
+ghost use Rattle.std.specs.Prelude.{◌≡◌, ◌+◌, ◌*◌, ◌^◌, ◌<◌, ◌≤◌, length, true, All};
+ghost use Rattle.transyt_profile.specs.Profile.{share_of, shared, IsQuick};
 
 use transyt_num::reciprocal;
 
@@ -20,7 +20,7 @@ pub fn share_into(x: &[u64], part: u32, whole: u32, out: &mut [u64])
     share_part(x, &part_of(part, whole), out);
 }
 
-/// A part of a whole, with what is worked out of both once. `IsPart` says how its numbers hang together.
+/// A part of a whole, with what is worked out of both once.
 #[derive(Clone, Copy)]
 pub struct Part {
     /// The part, in vehicles per hour.
@@ -33,6 +33,8 @@ pub struct Part {
     pub factor: u64,
     /// Whether a product by the factor takes the place of a division.
     pub quick: bool,
+    pub ghost fits: { part ≤ 9999 },
+    pub ghost is_quick: { quick ≡ true → IsQuick part whole reciprocal factor },
 }
 
 /// A part of a whole, both in vehicles per hour, made ready for `share_part`.
@@ -42,7 +44,6 @@ pub fn part_of(part: u32, whole: u32) -> Part
     requires part_fits { part ≤ 9999 }
     ensures part { result.part ≡ part }
     ensures whole { result.whole ≡ whole }
-    ensures is { IsPart result }
 {
     let quick = 1 < whole && whole < 1048576 && part < whole;
     if quick {
@@ -69,7 +70,6 @@ pub fn part_of(part: u32, whole: u32) -> Part
 pub fn share_part(x: &[u64], part: &Part, out: &mut [u64])
     requires lengths { length x.now ≡ length out.old }
     requires fit { All (λ v. v < 2 ^ 30) x.now }
-    requires is { IsPart part.now }
     ensures value { out.new ≡ shared part.now.part part.now.whole x.now }
     ensures small { All (λ v. v < 2 ^ 44) out.new }
 {
@@ -80,15 +80,14 @@ pub fn share_part(x: &[u64], part: &Part, out: &mut [u64])
 
 /// The share of one step.
 pub(crate) fn share_step(value: u64, part: &Part) -> u64
-    requires fits { value < 2 ^ 30 }
-    requires is { IsPart part.now }
+    requires { value < 2 ^ 30 }
     ensures value { result ≡ share_of part.now.part part.now.whole value }
     ensures small { result < 2 ^ 44 }
 {
     if part.quick {
         product(value, part)
     } else {
-        share(value, part.part, part.whole)
+        share(value, part)
     }
 }
 
@@ -96,7 +95,7 @@ pub(crate) fn share_step(value: u64, part: &Part) -> u64
 #[tactic(auto, using(crate::proofs::SharesFit::fits))]
 pub(crate) fn product(value: u64, part: &Part) -> u64
     requires fits { value < 2 ^ 30 }
-    requires quick { IsQuick part.now }
+    requires quick { part.now.quick ≡ true }
     ensures value { result ≡ share_of part.now.part part.now.whole value }
     ensures small { result < 2 ^ 44 }
 {
@@ -104,15 +103,14 @@ pub(crate) fn product(value: u64, part: &Part) -> u64
 }
 
 /// The share of one step, by a division.
-fn share(value: u64, part: u32, whole: u32) -> u64
-    requires fits { value < 2 ^ 30 }
-    requires part_fits { part ≤ 9999 }
-    ensures value { result ≡ share_of part whole value }
+fn share(value: u64, part: &Part) -> u64
+    requires { value < 2 ^ 30 }
+    ensures value { result ≡ share_of part.now.part part.now.whole value }
     ensures small { result < 2 ^ 44 }
 {
-    if whole == 0 {
+    if part.whole == 0 {
         0
     } else {
-        value * u64::from(part) / u64::from(whole)
+        value * u64::from(part.part) / u64::from(part.whole)
     }
 }

@@ -1,8 +1,9 @@
 //! How a platoon travels: its travel time in steps, and the factors that follow from time and dispersion.
 
-ghost use Rattle.std.specs.Prelude.{◌≡◌, ◌+◌, ◌*◌, ◌<◌, ◌≤◌};
+ghost use Rattle.std.specs.Prelude.{◌≡◌, ◌+◌, ◌*◌, ◌%◌, ◌<◌, ◌≤◌};
 ghost use Rattle.transyt_profile.specs.Platoon.{travel_steps};
-ghost use Rattle.transyt_profile.specs.Travels.{IsTravel};
+
+use crate::spread::Spread;
 
 /// The travel time in steps of a cycle of `cycle` seconds that has `step_count` steps.
 ///
@@ -20,8 +21,8 @@ pub fn travel_steps(cruise: u32, step_count: u32, cycle: u32) -> u32
     (8 * cruise * step_count + 5 * cycle) / (10 * cycle)
 }
 
-/// A travel time and a dispersion, with the factors that follow from both. `IsTravel` says how its numbers hang
-/// together.
+/// A travel time and a dispersion, with the factors that follow from both: 100 and the weight, each times the reciprocal
+/// of their sum. Products of values below the limit have room.
 #[derive(Clone, Copy)]
 pub struct Travel {
     /// The travel time in steps.
@@ -40,39 +41,45 @@ pub struct Travel {
     pub before_factor: u64,
     /// The step that the first step leads to.
     pub place: usize,
+    pub ghost is_weight: { weight ≡ percent * time },
+    pub ghost weight_fits: { weight ≤ 96000 },
+    pub ghost limit_fits: { limit ≤ 4194304 },
+    pub ghost room: { limit * (100 + weight) * (100 + weight) ≤ 1099511627776 },
+    pub ghost least: { 1099511627776 ≤ reciprocal * (100 + weight) },
+    pub ghost close: { reciprocal * (100 + weight) < 1099511627776 + (100 + weight) },
+    pub ghost is_starting: { starting_factor ≡ 100 * reciprocal },
+    pub ghost is_before: { before_factor ≡ weight * reciprocal },
 }
 
-/// A travel of `time` steps at `percent` dispersion round a cycle of `step_count` steps, made ready for
-/// `disperse_together`.
+/// A travel round a cycle of `step_count` steps, made ready for `disperse_together`.
 #[tactic(auto, using(transyt_num::proofs::ReciprocalLaws::reciprocal_least, transyt_num::proofs::ReciprocalLaws::reciprocal_close))]
-pub fn travel_of(time: u32, percent: u32, step_count: usize) -> Travel
-    requires steps { 0 < step_count }
-    requires time { time ≤ 960 }
-    requires percent { percent ≤ 100 }
-    ensures time { result.time ≡ time }
-    ensures percent { result.percent ≡ percent }
-    ensures is { IsTravel step_count result }
+pub fn travel_of(spread: Spread, step_count: usize) -> Travel
+    requires { 0 < step_count }
+    ensures time { result.time ≡ spread.time }
+    ensures percent { result.percent ≡ spread.percent }
+    ensures place { result.place ≡ spread.time % step_count }
 {
-    let weight = u64::from(percent) * u64::from(time);
+    let weight = spread.weight();
     let reciprocal = 1099511627775 / (100 + weight) + 1;
     Travel {
-        time,
-        percent,
+        time: spread.time,
+        percent: spread.percent,
         weight,
-        limit: limit_of(weight),
+        limit: limit_of(spread),
         reciprocal,
         starting_factor: 100 * reciprocal,
         before_factor: weight * reciprocal,
-        place: time as usize % step_count,
+        place: spread.time as usize % step_count,
     }
 }
 
-/// A number below which values leave room for products with this weight.
-fn limit_of(weight: u64) -> u64
-    requires weight { weight ≤ 96000 }
+/// A number below which values leave room for products with the weight of a spread.
+fn limit_of(spread: Spread) -> u64
     ensures small { result ≤ 4194304 }
-    ensures room { result * (100 + weight) * (100 + weight) ≤ 1099511627776 }
+    ensures room { result * (100 + spread.percent * spread.time)
+        * (100 + spread.percent * spread.time) ≤ 1099511627776 }
 {
+    let weight = spread.weight();
     let square = (100 + weight) * (100 + weight);
     (1099511627776 / square).min(4194304)
 }

@@ -7,7 +7,7 @@ use Rattle.transyt_profile.proofs.dispersion.disperse.Goals as goal
 -- the mean of the profile is within its bound
 pub invariant_of-journey-clause-mean_fits : goal.invariant_of-journey-clause-mean_fits
 invariant_of-journey-clause-mean_fits c =
-    let whole = c.total-whole.ensures.bounded (2 ^ 44 - 1) (λ k d h. omega (arith, c.requires.fit k d h)) in
+    let whole = c.total-total.ensures.bounded (2 ^ 44 - 1) (λ k d h. omega (arith, c.requires.fit k d h)) in
     let mean = div-le_of_le-mul (length c.args.x.now) whole in omega arith
 
 -- so each step has the value of the definition

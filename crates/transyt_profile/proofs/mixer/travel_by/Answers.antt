@@ -10,7 +10,7 @@ pub second-preserved : goal.second-preserved
 second-preserved c =
     let journey = c.args.quick.now.journey.now in
     let at = c.second.invariant in
-    let more = step_placed journey.profile.now c.second.out journey.time journey.percent c.second.i c.second.place
+    let more = step_placed journey.profile.now c.second.out journey.spread.time journey.spread.percent c.second.i c.second.place
     c.second.value _ _ (omega arith) (omega arith) at.here at.place at.placed (cc) c.after-place.ensures.value in
     record { small = omega arith; here = more.0; place = more.1; placed = more.2 }
 
@@ -20,7 +20,7 @@ first-init c =
     let journey = c.args.quick.now.journey.now in
     record {
       small = omega (arith, div-le_self (sum journey.profile.now) (length journey.profile.now));
-      here = journey.is_mean ∙ sym (smoothed_none journey.profile.now (journey.percent * journey.time));
+      here = journey.is_mean ∙ sym (smoothed_none journey.profile.now (journey.spread.percent * journey.spread.time));
     }
 
 -- one step of the first turn
@@ -29,7 +29,7 @@ first-preserved c =
     let journey = c.args.quick.now.journey.now in
     record {
       small = omega arith;
-      here = step_first journey.profile.now journey.percent journey.time _ c.first.i c.first.value _ (cc) (omega arith)
+      here = step_first journey.profile.now journey.spread.percent journey.spread.time _ c.first.i c.first.value _ (cc) (omega arith)
           c.first.invariant.here c.mix-value.ensures.value;
     }
 
@@ -38,7 +38,7 @@ pub second-init : goal.second-init
 second-init c = record {
   small = c.first.invariant.small;
   here = c.first.invariant.here
-      ∙ ap (smoothed c.args.quick.now.journey.now.profile.now (c.args.quick.now.journey.now.percent * c.args.quick.now.journey.now.time)) (omega arith);
+      ∙ ap (smoothed c.args.quick.now.journey.now.profile.now (c.args.quick.now.journey.now.spread.percent * c.args.quick.now.journey.now.spread.time)) (omega arith);
   place = search rules;
   placed = λ m none. absurd (omega arith);
 }

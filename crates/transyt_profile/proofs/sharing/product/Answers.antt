@@ -5,6 +5,6 @@ use Rattle.transyt_profile.proofs.sharing.product.Goals as goal
 -- the quotient that the shift leaves
 pub returns-clause-value : goal.returns-clause-value
 returns-clause-value c =
-    let q = c.requires.quick in
-    rw (c.from.ensures, c.from-2.ensures, q.factor)
-    (share_by _ _ _ _ c.requires.fits q.fits q.some q.whole q.least q.close)
+    let q = c.args.part.now.is_quick c.requires.quick in
+    rw (c.from.ensures, c.from-2.ensures, q.is)
+    (share_by _ _ _ _ c.requires.fits c.args.part.now.fits q.some q.fits q.least q.close)

@@ -76,5 +76,5 @@ returns-clause-grows g c = λ limit within.
     let p : Platoon = get_or ps i d in
     dispersed_small (sent p) _ _ (2 ^ 22)
     (omega (arith, length-sent p, c.args.abreast.now.ready.same i d h, c.args.abreast.now.some))
-    (λ k e below. omega (arith, c.args.abreast.now.ready.fit i d h k e below, p.is_travel.small)))
+    (λ k e below. omega (arith, c.args.abreast.now.ready.fit i d h k e below, p.travel.now.limit_fits)))
     within)

@@ -12,7 +12,7 @@ use Rattle.transyt_profile.proofs.passing.Passing.arrive.Goals as goal
 -- within the two turns
 within : (p : Platoon) (i place : ℕ) → i < steps_of p → place ≡ p.travel.now.place → place + i < 2 * steps_of p
 within p i place step is =
-    omega (arith, is, p.is_travel.place, mod-lt p.travel.now.time {m = steps_of p} (omega (arith, step)), step)
+    omega (arith, is, p.place, mod-lt p.travel.now.time {m = steps_of p} (omega (arith, step)), step)
 
 -- the value that goes by is the smoothed profile's next
 pub returns-clause-passed : goal.returns-clause-passed
@@ -30,7 +30,7 @@ returns-clause-arrives c =
     let i : ℕ = c.args.step in
     let gone = c.mix-self.ensures.value ∙ ap (mixed _ _) c.requires.passed.value ∙ second_gone p i c.requires.step in
     let place : ℕ = c.args.self.now.place in
-    let is_place : place ≡ p.travel.now.time % n = c.requires.passed.place ∙ p.is_travel.place in
+    let is_place : place ≡ p.travel.now.time % n = c.requires.passed.place ∙ p.place in
     let inside : place + i < length c.args.turns.now =
     omega (arith, within p i place c.requires.step c.requires.passed.place, c.requires.turns_len) in
     arrived_more (λ m. gone_by p (n + 1 + m)) (p.travel.now.time % n) i place c.args.turns.now _ is_place
@@ -45,5 +45,5 @@ returns-clause-grows c = λ limit all.
     let place : ℕ = c.args.self.now.place + c.args.step in
     let inside = within p c.args.step _ c.requires.step c.requires.passed.place in
     All-set (λ v. v < limit + 2 ^ 22) c.args.turns.now place _
-    (omega (arith, all place 0 (omega (arith, inside, c.requires.turns_len)), c.mix-self.ensures.small, p.is_travel.small))
+    (omega (arith, all place 0 (omega (arith, inside, c.requires.turns_len)), c.mix-self.ensures.small, p.travel.now.limit_fits))
     (λ k d less. omega (arith, all k d less)))

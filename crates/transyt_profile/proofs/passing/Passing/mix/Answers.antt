@@ -21,11 +21,10 @@ pub returns-clause-value : goal.returns-clause-value
 returns-clause-value c =
     let p = c.args.platoon.now in
     let r = c.requires in
-    let is = p.is_travel in
     let travel = p.travel.now in
-    rw (r.product, r.factor, is.starting_factor, is.before_factor)
-    (mixed_by travel.weight travel.reciprocal _ c.args.self.now.value travel.limit 1099511627776 is.least is.close
-    is.room (sent_fits p c.args.step r.fits r.step) r.before)
+    rw (r.product, r.factor, travel.is_starting, travel.is_before)
+    (mixed_by travel.weight travel.reciprocal _ c.args.self.now.value travel.limit 1099511627776 travel.least travel.close
+    travel.room (sent_fits p c.args.step r.fits r.step) r.before)
 
 -- a mean of numbers below a limit
 pub returns-clause-small : goal.returns-clause-small
