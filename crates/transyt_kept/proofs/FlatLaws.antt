@@ -92,39 +92,32 @@ length-put a k values x len room =
       length-drop a values,
     )
 
--- a table that has these rows
-module _ (count n : ℕ) (values : List ℕ) (long : length values ≡ count * n) (table : List (List ℕ))
-    (is : cut_rows count n values ≡ table) (p : ℕ) (inside : p < length table) where
-  there : p < count
-  there = omega (arith, inside, ap (λ (t : List (List ℕ)). length t) is, cut_length count n values)
+-- the vector of the values, of which there are len, with x as row p
+abbrev pub written : ℕ → List ℕ → ℕ → List ℕ → ℕ → List ℕ
+written n values p x len =
+    let put : List ℕ = put_mid (p * n) (p * n + n - p * n) values x in
+    take len (put ++ drop (length put) values)
 
-  -- its row at a place
-  pub cut_read : row table p ≡ piece n values p
-  cut_read = ap (λ t. row t p) (sym is) ∙ cut_row count n values p there
+module _ (count n : ℕ) (values : List ℕ) (long : length values ≡ count * n) (p : ℕ) (inside : p < count) (x : List ℕ)
+    (steps : length x ≡ n) (len : ℕ) (all : len ≡ length values) where
+  room : p * n + n ≤ length values
+  room = cut_room count n values long p inside
 
-  -- it is within the values
-  pub cut_within : p * n + n ≤ length values
-  cut_within = cut_room count n values long p there
-
-  -- and has n of them
-  pub cut_wide : length (row table p) ≡ n
-  cut_wide = ap (λ t. length (row t p)) (sym is) ∙ cut_steps count n values long p there
-
-  -- with a row written in the vector of its values
-  pub cut_written : (x : List ℕ) → length x ≡ length (row table p) → (len : ℕ) → len ≡ length values
-      → cut_rows count n (take len (put_mid (p * n) (p * n + n - p * n) values x
-      ++ drop (length (put_mid (p * n) (p * n + n - p * n) values x)) values)) ≡ set table p x
-  cut_written x as_long len all =
-      let steps : length x ≡ n = as_long ∙ cut_wide in
+  written_is : written n values p x len ≡ put_piece n values p x
+  written_is =
       let width : p * n + n - p * n ≡ n = omega arith in
-      let room = cut_within in
-      let same : length (put_mid (p * n) (p * n + n - p * n) values x) ≡ len =
+      let put : List ℕ = put_mid (p * n) (p * n + n - p * n) values x in
+      let same : length put ≡ len =
       length-put (p * n) (p * n + n - p * n) values x (omega (arith, steps)) (omega (arith, room)) ∙ sym all in
-      let written : List ℕ = put_mid (p * n) (p * n + n - p * n) values x in
-      ap (cut_rows count n) (take_at written (drop (length written) values) len same)
-      ∙ ap (λ k. cut_rows count n (put_mid (p * n) k values x)) width
-      ∙ cut_put count n values long p there x steps
-      ∙ ap (λ t. set t p x) is
+      take_at put (drop (length put) values) len same ∙ ap (λ k. put_mid (p * n) k values x) width
+
+  -- it has as many values as before
+  pub length-written : length (written n values p x len) ≡ length values
+  length-written = ap length written_is ∙ length-put (p * n) n values x steps room
+
+  -- and these rows
+  pub cut_written : cut_rows count n (written n values p x len) ≡ set (cut_rows count n values) p x
+  cut_written = ap (cut_rows count n) written_is ∙ cut_put count n values long p inside x steps
 
 -- rows of 0
 pub cut_empty : (count n : ℕ) → cut_rows count n (replicate (count * n) 0) ≡ empty_table count n

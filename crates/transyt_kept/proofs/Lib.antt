@@ -4,4 +4,5 @@ pub mod ShownLaws
 pub mod FlatLaws
 pub mod IndexLaws
 pub mod VersionLaws
+pub mod TableLaws
 pub mod WrittenLaws

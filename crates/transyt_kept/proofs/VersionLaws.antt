@@ -1,10 +1,8 @@
 -- A version that is written is shown by the bits that name it, and by no others.
 use Rattle.std.proofs.Common.{◌≡◌, ℕ, zero, suc, ◌+◌, ◌*◌, ◌<◌, Bool, true, false, not, List, [], ◌∷◌, length, set, get_or}
-use Rattle.std.proofs.Common.{replicate, refl, ap, sym, ◌∙◌, arith, if◌then◌else◌, All}
+use Rattle.std.proofs.Common.{replicate, refl, ap, sym, ◌∙◌, arith, if◌then◌else◌}
 use Rattle.std.proofs.lemmas.List.{length-set}
-use Rattle.std.proofs.lemmas.List.Elements.{All-set}
-use Rattle.transyt_kept.specs.Rows.{row}
-use Rattle.transyt_kept.specs.Versions.{VersionsValue, slot, bit, shown, versions_of, AreVersions, AreRowVersions}
+use Rattle.transyt_kept.specs.Versions.{VersionsValue, slot, bit, shown, versions_of, AreVersions}
 
 -- where a version stands, as a number
 pub slot_is : (p : ℕ) (b : Bool) → slot p b ≡ 2 * p + (if b then 1 else 0)
@@ -119,24 +117,3 @@ versions_set {slots = slots} {xs = xs} are p b s x = record {
   bits = are.bits ∙ sym (length-set slots.now p b);
   two = length-set xs s x ∙ are.two ∙ ap (λ n. 2 * n) (sym (length-set slots.now p b));
 }
-
-module _ {n : ℕ} {slots : VersionsValue Bool} {rows : List (List ℕ)} (are : AreRowVersions n slots rows) where
-  -- with a version of n values written each has n
-  pub rows_set : (p : ℕ) (b : Bool) (s : ℕ) (x : List ℕ) → length x ≡ n
-      → AreRowVersions n (record slots { now = set slots.now p b }) (set rows s x)
-  rows_set p b s x long = record {
-    versions = versions_set are.versions p b s x;
-    steps = All-set (λ y. length y ≡ n) rows s x long are.steps;
-  }
-
-  module _ (view : VersionsValue (List ℕ)) (is : versions_of slots rows ≡ view) (p : ℕ) (inside : p < length view.now)
-    where
-      -- each version has n values
-      pub version_steps : (b : Bool) → length (row rows (slot p b)) ≡ n
-      version_steps b = are.steps (slot p b) [] (has_version slots rows are.versions view is p inside b)
-
-      -- and so has the row that is seen
-      pub seen_steps : length (row view.now p) ≡ n
-      seen_steps =
-          ap length (sym (version_read slots rows are.versions view is p inside []))
-          ∙ version_steps (bit slots.now p)

@@ -1,6 +1,6 @@
 -- Rows that stand in memory in two versions each. No public clause cites them.
 use Rattle.std.specs.Prelude.{◌≡◌, ℕ, zero, suc, ◌+◌, ◌*◌, ◌^◌, ◌<◌, Bool, false, List, [], ◌∷◌, length, map}
-use Rattle.std.specs.Prelude.{if◌then◌else◌, slice_range, slice_index_or, All}
+use Rattle.std.specs.Prelude.{if◌then◌else◌, slice_range, slice_index_or}
 use Rattle.std.specs.List.{range_with_len}
 use Rattle.transyt_kept.specs.Rows.{RowsValue, AreRows, index_in}
 use Rattle.transyt_kept.specs.Marked.{KeptValue, marked_by}
@@ -42,22 +42,24 @@ pub record AreVersions {A : Type 0} (slots : VersionsValue Bool) (xs : List A) :
   pub bits : length slots.mark ≡ length slots.now
   pub two : length xs ≡ 2 * length slots.now
 
--- and each is of n values
-pub record AreRowVersions (n : ℕ) (slots : VersionsValue Bool) (rows : List (List ℕ)) : Type 0 where
-  pub versions : AreVersions slots rows
-  pub steps : All (λ x. length x ≡ n) rows
+-- there are two bits for each of the rows, and two versions of n values each
+pub record AreRowVersions (count n : ℕ) (slots : VersionsValue Bool) (values : List ℕ) : Type 0 where
+  pub now : length slots.now ≡ count
+  pub mark : length slots.mark ≡ count
+  pub versions : length values ≡ 2 * count * n
 
 -- rows of n values each, one after another in these
 unfoldable pub cut_rows : ℕ → ℕ → List ℕ → List (List ℕ)
 cut_rows count n values = map (λ p. slice_range values (p * n) (p * n + n)) (range_with_len 0 count)
 
--- the invariant of rows with a mark: the kept indexes are the sums of the links' indexes, now and at the mark
-pub record AreKept (now mark : RowsValue) (index mark_index : ℕ) : Type 0 where
+-- the invariant of rows with a mark: as many links, and the kept indexes are the sums of the links' indexes, now and at the mark
+pub record AreKept (link_count : ℕ) (now mark : RowsValue) (index mark_index : ℕ) : Type 0 where
   pub rows : AreRows now
+  pub links : length now.figures ≡ link_count
   pub index_sum : index ≡ index_in now
   pub mark_rows : AreRows mark
+  pub mark_links : length mark.figures ≡ link_count
   pub mark_index_sum : mark_index ≡ index_in mark
-  pub links : length mark.figures ≡ length now.figures
 
 -- rows now, and those of the mark, which count only where one is open
 abbrev pub kept_of : Bool → RowsValue → RowsValue → KeptValue

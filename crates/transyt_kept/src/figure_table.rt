@@ -1,6 +1,6 @@
 //! A table of figures, each in two versions.
 
-ghost use Rattle.std.specs.Prelude.{◌≡◌, ◌^◌, ◌<◌, length, replicate, slice_set, slice_index_or, IfOk};
+ghost use Rattle.std.specs.Prelude.{◌≡◌, ◌<◌, length, replicate, slice_set, slice_index_or, IfOk};
 ghost use Rattle.transyt_kept.specs.Cell.{no_figures};
 ghost use Rattle.transyt_kept.specs.Versions.{both};
 
@@ -29,8 +29,7 @@ impl Model for FigureTable {
 
 impl FigureTable {
     /// The figures of `count` links, all 0, now and at the mark. All memory is taken here.
-    pub(crate) fn empty(alloc: Global, count: usize) -> Result<FigureTable, AllocError>
-        requires { count < 2 ^ 31 }
+    pub(crate) fn empty(alloc: Global, count: u32) -> Result<FigureTable, AllocError>
         ensures { IfOk result (λ table. table ≡ both (replicate count no_figures)) }
     {
         let none = Figures {
@@ -39,16 +38,9 @@ impl FigureTable {
             stops: 0,
             index: 0,
         };
-        let versions = vec![in alloc; none; 2 * count]?;
+        let versions = vec![in alloc; none; 2 * count as usize]?;
         let slots = Slots::open(alloc, count)?;
         Ok(FigureTable { slots, versions })
-    }
-
-    /// How many links there are.
-    pub(crate) fn len(&self) -> usize
-        ensures { result ≡ length self.now.now }
-    {
-        self.slots.len()
     }
 
     /// The figures of a link now.

@@ -18,16 +18,16 @@
 //!   the mark.
 //! - That departures are below 2^30 is the invariant of `Rows`. So a read asks for nothing, and a write asks for the
 //!   bound.
-//! - Each row has two versions in memory, side by side in one piece (`src/flat.rt`), and two bits: one tells which
-//!   version is the row now, the other which is the row of the mark (`src/slots.rt`). A write goes to the version
-//!   that isn't the mark's. A mark is set by copying bits, and taken back by copying them the other way, so no row is
-//!   copied for it. A `Table` (`src/table.rt`) is seen as the rows now and those at the mark; departures, arrivals,
-//!   GO and queues are one each, and figures a table of their own (`src/figure_table.rt`). `specs/Versions` has the
-//!   versions, and no other crate knows of them; `proofs/VersionLaws` has the one step of all writes.
+//! - Each row has two versions in memory, side by side in one piece, and two bits: one tells which version is the row
+//!   now, the other which is the row of the mark (`src/slots.rt`). A write goes to the version that isn't the mark's. A
+//!   mark is set by copying bits, and taken back by copying them the other way, so no row is copied for it.
+//! - A `Table` (`src/table.rt`) is seen as the rows now and those at the mark; departures, arrivals, GO and queues are
+//!   one each, and figures a table of their own (`src/figure_table.rt`). That all of it is within memory is a fact of
+//!   its size (`src/size.rt`). `specs/Versions` has the versions, and no other crate knows of them;
+//!   `proofs/VersionLaws` has the one step of all writes.
 #![tactic(auto)]
 
 mod figure_table;
-mod flat;
 mod laws;
 mod rows;
 mod size;

@@ -4,8 +4,8 @@ ghost use Rattle.std.specs.Prelude.{◌≡◌, ◌<◌, ◌≤◌, ◌^◌, leng
 ghost use Rattle.std.specs.Option.{is_some};
 ghost use Rattle.transyt_profile.specs.Profile.{uniform};
 ghost use Rattle.transyt_kept.specs.Cell.{no_figures, AreSmall};
-ghost use Rattle.transyt_kept.specs.Rows.{row, out_at, pair_place, pair_in, shown_at, index_in, empty_rows};
-ghost use Rattle.transyt_kept.specs.Rows.{with_out, with_figures, with_rest, with_arrivals, with_go, placed};
+ghost use Rattle.transyt_kept.specs.Rows.{row, out_at, pair_place, pair_in, index_in, empty_rows};
+ghost use Rattle.transyt_kept.specs.Rows.{with_out, with_figures, with_arrivals, with_go, placed};
 ghost use Rattle.transyt_kept.specs.Rows.{SameSize, AreRows};
 ghost use Rattle.transyt_kept.specs.Marked.{unmarked};
 
@@ -26,8 +26,7 @@ use transyt_delay::Figures;
 /// Rows know no network: the calls that read one (`open`, `place`, `start`, `reweigh`) are the trait `RowsOfNetwork` of
 /// transyt_sweep.
 pub struct Rows {
-    step_count: usize,
-    sweeps: u32,
+    size: Size,
     is_open: bool,
     outs: Table,
     arrivals: Table,
@@ -43,8 +42,7 @@ impl Drop for Rows {
     // Written out: a derived one is proved again in each crate that lets a value go.
     fn drop(self) {
         let Rows {
-            step_count: _,
-            sweeps: _,
+            size: _,
             is_open: _,
             outs: _,
             arrivals: _,
@@ -65,14 +63,14 @@ impl Model for Rows {
     ghost Value = { KeptValue };
 
     ghost view = { λ r. kept_of r.is_open
-        (rows_of r.step_count r.sweeps r.outs.now r.arrivals.now r.go.now r.queue.now r.figures.now)
-        (rows_of r.step_count r.sweeps r.outs.mark r.arrivals.mark r.go.mark r.queue.mark
+        (rows_of r.size.step_count r.size.sweeps r.outs.now r.arrivals.now r.go.now r.queue.now r.figures.now)
+        (rows_of r.size.step_count r.size.sweeps r.outs.mark r.arrivals.mark r.go.mark r.queue.mark
         r.figures.mark) };
 
     // the kept indexes are the sums of the figures' indexes
-    ghost invariant = { λ r. AreKept
-        (rows_of r.step_count r.sweeps r.outs.now r.arrivals.now r.go.now r.queue.now r.figures.now)
-        (rows_of r.step_count r.sweeps r.outs.mark r.arrivals.mark r.go.mark r.queue.mark
+    ghost invariant = { λ r. AreKept r.size.link_count
+        (rows_of r.size.step_count r.size.sweeps r.outs.now r.arrivals.now r.go.now r.queue.now r.figures.now)
+        (rows_of r.size.step_count r.size.sweeps r.outs.mark r.arrivals.mark r.go.mark r.queue.mark
         r.figures.mark)
         r.index r.mark_index };
 }
@@ -84,22 +82,19 @@ impl Rows {
         ensures { IfOk result (λ rows. rows
             ≡ unmarked (empty_rows size.step_count size.sweeps size.link_count)) }
     {
-        let step_count = size.step_count;
-        let link_count = size.link_count;
-        let figures = FigureTable::empty(alloc, link_count)?;
-        let Ok(outs) = Table::empty(alloc, (size.sweeps as usize + 1) * link_count, step_count)
-        else {
+        let shown = size.links();
+        let figures = FigureTable::empty(alloc, shown.row_count)?;
+        let Ok(outs) = Table::empty(alloc, size.pairs()) else {
             drop(figures);
             return Err(AllocError);
         };
-        let Ok((arrivals, go, queue)) = three_tables(alloc, link_count, step_count) else {
+        let Ok((arrivals, go, queue)) = three_tables(alloc, shown) else {
             drop(figures);
             drop(outs);
             return Err(AllocError);
         };
         Ok(Rows {
-            step_count,
-            sweeps: size.sweeps,
+            size,
             is_open: false,
             outs,
             arrivals,
@@ -130,7 +125,7 @@ impl Rows {
         ensures value { result ≡ pair_place self.now.now sweep link }
         ensures within { result < length self.now.now.outs }
     {
-        sweep as usize * self.figures.len() + link
+        sweep as usize * self.size.link_count + link
     }
 
     /// The arrivals of a link at the last sweep, before any cut, in millionths of a vehicle per step.
@@ -183,11 +178,7 @@ impl Rows {
         ensures sweeps { result.sweeps ≡ self.now.now.sweeps }
         ensures link_count { result.link_count ≡ length self.now.now.figures }
     {
-        Size {
-            step_count: self.step_count,
-            sweeps: self.sweeps,
-            link_count: self.figures.len(),
-        }
+        self.size
     }
 
     /// Whether a mark is open.
@@ -308,24 +299,14 @@ impl Rows {
         ensures kept { AreRows self.old.now }
     {
         self.put_out(sweep, link, from.out(sweep, link));
-        if sweep == self.sweeps {
-            self.take_rest(link, from);
+        if sweep == self.size.sweeps {
+            self.put_arrivals(
+                link,
+                from.arrivals(link),
+                from.queue(link),
+                from.figures(link),
+            );
+            self.put_go(link, from.go(link));
         }
-    }
-
-    /// The rest of a link at the last sweep becomes that of other rows.
-    fn take_rest(&mut self, link: usize, from: &Rows)
-        requires link { link < length self.old.now.figures }
-        requires size { SameSize self.old.now from.now.now }
-        ensures { self.new ≡ record
-            self.old { now = with_rest self.old.now link (shown_at from.now.now link) } }
-    {
-        self.put_arrivals(
-            link,
-            from.arrivals(link),
-            from.queue(link),
-            from.figures(link),
-        );
-        self.put_go(link, from.go(link));
     }
 }

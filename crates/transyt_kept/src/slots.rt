@@ -36,20 +36,12 @@ fn slot(place: usize, second: bool) -> usize
 
 impl Slots {
     /// Of each row the first version is the row now, and that of the mark.
-    pub(crate) fn open(alloc: Global, count: usize) -> Result<Slots, AllocError>
-        requires { count < 2 ^ 32 }
+    pub(crate) fn open(alloc: Global, count: u32) -> Result<Slots, AllocError>
         ensures { IfOk result (λ slots. slots ≡ both (replicate count false)) }
     {
-        let current = vec![in alloc; false; count]?;
-        let of_mark = vec![in alloc; false; count]?;
+        let current = vec![in alloc; false; count as usize]?;
+        let of_mark = vec![in alloc; false; count as usize]?;
         Ok(Slots { current, of_mark })
-    }
-
-    /// How many rows there are.
-    pub(crate) fn len(&self) -> usize
-        ensures { result ≡ length self.now.now }
-    {
-        self.current.len()
     }
 
     /// Where a row stands now.

@@ -1,52 +1,54 @@
-//! A table of rows of equal length, each in two versions.
+//! A table of rows of equal length, each in two versions, one after another in one piece of memory.
 
-ghost use Rattle.std.specs.Prelude.{◌≡◌, ◌*◌, ◌^◌, ◌<◌, length, slice_set, IfOk};
+ghost use Rattle.std.specs.Prelude.{◌≡◌, ◌<◌, length, slice_set, IfOk};
 ghost use Rattle.transyt_profile.specs.Profile.{uniform};
 ghost use Rattle.transyt_kept.specs.Rows.{row, empty_table};
 ghost use Rattle.transyt_kept.specs.Versions.{both};
 
-use crate::flat::FlatTable;
+use crate::size::TableSize;
 use crate::slots::Slots;
 use std::alloc::{AllocError, Global};
 use std::marker::Model;
+use transyt_profile::fill_uniform;
 
 /// Rows of values: each now, and at the mark.
 #[derive(Drop)]
 pub(crate) struct Table {
-    step_count: usize,
+    size: TableSize,
     slots: Slots,
-    versions: FlatTable,
+    // the two versions of each row, the first before the second
+    values: Vec<u64>,
 }
 
 impl Model for Table {
-    ghost use Rattle.std.specs.Prelude.{ℕ, List};
-    ghost use Rattle.transyt_kept.specs.Versions.{VersionsValue, versions_of, AreRowVersions};
+    ghost use Rattle.std.specs.Prelude.{ℕ, ◌*◌, List};
+    ghost use Rattle.transyt_kept.specs.Versions.{VersionsValue, versions_of, cut_rows, AreRowVersions};
 
     ghost Value = { VersionsValue (List ℕ) };
 
-    ghost view = { λ t. versions_of t.slots t.versions };
+    ghost view = { λ t. versions_of t.slots (cut_rows (2 * t.size.row_count) t.size.step_count t.values.items) };
 
-    ghost invariant = { λ t. AreRowVersions t.step_count t.slots t.versions };
+    ghost invariant = { λ t. AreRowVersions t.size.row_count t.size.step_count t.slots t.values.items };
 }
 
-/// Three tables of `count` rows of `step_count` values, all 0. All their memory is taken here.
+/// Three tables of a size, all 0. All their memory is taken here.
 pub(crate) fn three_tables(
     alloc: Global,
-    count: usize,
-    step_count: usize,
+    size: TableSize,
 ) -> Result<(Table, Table, Table), AllocError>
-    requires few { count < 2 ^ 31 }
-    requires fits { 2 * count * step_count < 2 ^ 32 }
-    ensures one { IfOk result (λ tables. tables.0 ≡ both (empty_table count step_count)) }
-    ensures two { IfOk result (λ tables. tables.1 ≡ both (empty_table count step_count)) }
-    ensures three { IfOk result (λ tables. tables.2 ≡ both (empty_table count step_count)) }
+    ensures one { IfOk result (λ tables. tables.0
+        ≡ both (empty_table size.row_count size.step_count)) }
+    ensures two { IfOk result (λ tables. tables.1
+        ≡ both (empty_table size.row_count size.step_count)) }
+    ensures three { IfOk result (λ tables. tables.2
+        ≡ both (empty_table size.row_count size.step_count)) }
 {
-    let one = Table::empty(alloc, count, step_count)?;
-    let Ok(two) = Table::empty(alloc, count, step_count) else {
+    let one = Table::empty(alloc, size)?;
+    let Ok(two) = Table::empty(alloc, size) else {
         drop(one);
         return Err(AllocError);
     };
-    let Ok(three) = Table::empty(alloc, count, step_count) else {
+    let Ok(three) = Table::empty(alloc, size) else {
         drop(one);
         drop(two);
         return Err(AllocError);
@@ -55,21 +57,20 @@ pub(crate) fn three_tables(
 }
 
 impl Table {
-    /// A table of `count` rows of `step_count` values, all 0, now and at the mark. All its memory is taken here.
-    pub(crate) fn empty(alloc: Global, count: usize, step_count: usize) -> Result<Table, AllocError>
-        requires few { count < 2 ^ 31 }
-        requires fits { 2 * count * step_count < 2 ^ 32 }
-        ensures { IfOk result (λ table. table ≡ both (empty_table count step_count)) }
+    /// A table of a size, all 0, now and at the mark. All its memory is taken here.
+    pub(crate) fn empty(alloc: Global, size: TableSize) -> Result<Table, AllocError>
+        ensures { IfOk result (λ table. table
+            ≡ both (empty_table size.row_count size.step_count)) }
     {
-        let slots = Slots::open(alloc, count)?;
-        let Ok(versions) = FlatTable::empty(alloc, 2 * count, step_count) else {
+        let slots = Slots::open(alloc, size.row_count)?;
+        let Ok(values) = vec![in alloc; 0; size.value_count()] else {
             drop(slots);
             return Err(AllocError);
         };
         Ok(Table {
-            step_count,
+            size,
             slots,
-            versions,
+            values,
         })
     }
 
@@ -78,7 +79,8 @@ impl Table {
         requires { place < length self.now.now }
         ensures { result.now ≡ row self.now.now place }
     {
-        self.versions.row(self.slots.current(place))
+        let from = self.slots.current(place) * self.size.step_count as usize;
+        &self.values[from..from + self.size.step_count as usize]
     }
 
     /// Puts a row in its place.
@@ -88,8 +90,8 @@ impl Table {
         ensures { self.new ≡ record
             self.old { now = slice_set self.old.now place values.now } }
     {
-        let slot = self.slots.other(place);
-        self.versions.put(slot, values);
+        let from = self.slots.other(place) * self.size.step_count as usize;
+        self.values[from..from + self.size.step_count as usize].copy_from_slice(values);
     }
 
     /// Puts a row of one value at each step in its place.
@@ -99,8 +101,11 @@ impl Table {
           now = slice_set self.old.now place (uniform (length (row self.old.now place)) value);
         } }
     {
-        let slot = self.slots.other(place);
-        self.versions.fill(slot, value);
+        let from = self.slots.other(place) * self.size.step_count as usize;
+        fill_uniform(
+            value,
+            &mut self.values[from..from + self.size.step_count as usize],
+        );
     }
 
     /// The mark stands for the rows now.

@@ -16,8 +16,8 @@ invariant_of-self c =
     let there : place < length i.outs.now =
     omega (arith, c.pair_place-place.ensures.within, ap (λ (v : KeptValue). length v.now.outs) c.self.view_is) in
     rw (c.fill.ensures, c.self.invariant.rows.outs.steps place [] there)
-    (out_written c.self.invariant place (uniform i.step_count value) (length-replicate i.step_count value)
-    (All-replicate (λ v. v < 2 ^ 30) i.step_count value c.requires.small))
+    (out_written c.self.invariant place (uniform i.size.step_count value) (length-replicate i.size.step_count value)
+    (All-replicate (λ v. v < 2 ^ 30) i.size.step_count value c.requires.small))
 
 pub returns-clause-value : goal.returns-clause-value
 returns-clause-value c =

@@ -1,27 +1,27 @@
 -- The version that its bit names is read.
-use Rattle.std.proofs.Common.{[], ap, ◌∙◌, arith}
-use Rattle.transyt_kept.specs.Rows.{row}
-use Rattle.transyt_kept.specs.Versions.{bit}
-use Rattle.transyt_kept.proofs.VersionLaws.{has_bits, has_version, version_read}
+use Rattle.std.proofs.Common.{arith}
+use Rattle.transyt_kept.proofs.TableLaws.{bits_there, version_within, row_read}
 use Rattle.transyt_kept.proofs.table.Table.row.Goals as goal
 
 pub current-requires : goal.current-requires
-current-requires c =
-    let i = c.self.inside in
-    has_bits i.slots i.versions c.self.invariant.versions _ c.self.view_is c.args.place c.requires
+current-requires c = bits_there c.self.invariant _ c.self.view_is _ c.requires
 
-pub row-requires : goal.row-requires
-row-requires c =
-    let i = c.self.inside in
-    let place = c.args.place in
-    omega (
-      arith,
-      has_version i.slots i.versions c.self.invariant.versions _ c.self.view_is place c.requires (bit i.slots.now place),
-      c.current.ensures,
-    )
+pub overflow_mul-from : goal.overflow_mul-from
+overflow_mul-from c =
+    omega (arith, version_within c.self.invariant _ c.self.view_is _ c.requires _ _ c.current.ensures)
+
+pub overflow_add-result : goal.overflow_add-result
+overflow_add-result c =
+    omega (arith, version_within c.self.invariant _ c.self.view_is _ c.requires _ _ c.current.ensures)
+
+pub offset_bounds-deref-from : goal.offset_bounds-deref-from
+offset_bounds-deref-from c =
+    omega (arith, version_within c.self.invariant _ c.self.view_is _ c.requires _ _ c.current.ensures)
+
+pub slice_bounds-result-end : goal.slice_bounds-result-end
+slice_bounds-result-end c =
+    omega (arith, version_within c.self.invariant _ c.self.view_is _ c.requires _ _ c.current.ensures)
 
 pub returns : goal.returns
 returns c =
-    let i = c.self.inside in
-    c.row.ensures ∙ ap (row i.versions) c.current.ensures
-    ∙ version_read i.slots i.versions c.self.invariant.versions _ c.self.view_is c.args.place c.requires []
+    rw (c.deref.ensures.value, c.current.ensures) (row_read c.self.invariant _ c.self.view_is _ c.requires)
