@@ -1,12 +1,13 @@
 -- One node more has no fault.
-use Rattle.std.proofs.Common.{◌≡◌, ℕ, ◌+◌, ◌*◌, ◌<◌, true, false, List, [], ◌∷◌, ◌++◌, length}
+use Rattle.std.proofs.Common.{◌≡◌, ℕ, ◌+◌, ◌*◌, ◌<◌, true, false, List, [], ◌∷◌, ◌++◌, length, map}
 use Rattle.std.proofs.Common.{Some, None, slice_get, nat_le, nat_eq, refl, ap, ◌∙◌}
 use Rattle.std.proofs.Common.{arith}
 use Rattle.std.proofs.lemmas.Bool.Decides.{nat_tests}
-use Rattle.std.proofs.lemmas.List.FromFn.{map-range_with_len_more}
+use Rattle.std.proofs.lemmas.List.FromFn.{map-range_with_len_more, length-map-range_with_len}
+use Rattle.std.specs.List.{range_with_len}
 use Rattle.transyt_parts.specs.declared.node.Stage.{Stage}
 use Rattle.transyt_parts.specs.Parts.{NodeValue}
-use Rattle.transyt_parts.specs.Valid.{node_in_range, stage_in_range}
+use Rattle.transyt_parts.specs.Valid.{node_number, node_in_range, stage_in_range}
 use Rattle.transyt_parts.specs.Made.{new_node, new_stage, add_stage}
 use Rattle.transyt_net.specs.Parts.{Network}
 use Rattle.transyt_net.specs.Valid.{is_among, node_numbers}
@@ -14,6 +15,10 @@ use Rattle.transyt_net.specs.Faults.{node_fault, with_node, stage_fault, with_st
 use Rattle.transyt_net.proofs.AfterLaws.{get_last, last_is, on_last}
 use Rattle.transyt_make.specs.Draws.{DrawsValue, draw, further}
 use Rattle.transyt_make.specs.Made.{node_with, made_node, unplanned}
+use Rattle.transyt_make.specs.declared.town.Town.{Town}
+use Rattle.transyt_make.specs.declared.works.Works.{Works}
+use Rattle.transyt_make.specs.Works.{node_works}
+use Rattle.transyt_make.proofs.PlaceLaws.{not_among}
 
 -- a new node has no fault
 pub node_free : (net : Network) (place offset : ℕ) → net.frame.step_count ≡ 50
@@ -89,3 +94,26 @@ one_more seed k m e f before more is =
 pub one_further : (d e f : DrawsValue) (k m : ℕ) → e ≡ further d k → f ≡ further e 1 → k + 1 ≡ m → f ≡ further d m
 one_further d e f k m before more is =
     one_more d.seed (d.taken + k) (d.taken + m) e f before more (omega (arith, is))
+
+-- the next node of a town has no fault
+pub next_free : (town : Town) (w : Works) (place offset : ℕ) → w ≡ node_works town place → place < town.nodes → offset < 50
+    → node_fault w.draft (place + 1) offset ≡ None
+next_free town w place offset before inside at =
+    let fresh = not_among node_number (made_node town.seed) place (place + 1) (λ i earlier. apart i place earlier) in
+    let count = length-map-range_with_len (made_node town.seed) 0 place in
+    rw before
+    (node_free (unplanned town.seed place []) place offset refl fresh (omega (arith, count, inside, town.most))
+    (omega (arith, inside, town.most)) at)
+
+-- the town with its next node
+pub node_done : (town : Town) (w : Works) (place o c : ℕ) (d f : DrawsValue) (e : Network) → w ≡ node_works town place
+    → o ≡ draw w.draws.seed w.draws.taken 50 → d ≡ further w.draws 1 → c ≡ draw d.seed d.taken 21 → f ≡ further d 1
+    → e ≡ plus_node w.draft (node_with place o (15 + c))
+    → record { town = town; draws = f; draft = e } ≡ node_works town (place + 1)
+node_done town w place o c d f e before first once second twice more =
+    let start = ap (λ (x : Works). x.draws) before in
+    let middle = one_more town.seed (2 * place) (2 * place + 1) _ _ start once (omega arith) in
+    let draws = one_more town.seed (2 * place + 1) (2 * (place + 1)) _ _ middle twice (omega arith) in
+    let draft = one_node town.seed place w.draft e o c (first ∙ ap (λ (x : DrawsValue). draw x.seed x.taken 50) start)
+    (second ∙ ap (λ (x : DrawsValue). draw x.seed x.taken 21) middle) (ap (λ (x : Works). x.draft) before) more in
+    rw (draws, draft) refl

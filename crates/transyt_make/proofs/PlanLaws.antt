@@ -1,6 +1,6 @@
 -- The plans of the nodes have no fault.
 use Rattle.std.proofs.Common.{◌≡◌, ℕ, suc, zero, ◌+◌, ◌-◌, ◌*◌, ◌/◌, ◌%◌, ◌<◌, ◌≤◌, ◌==◌, true, [], ◌∷◌}
-use Rattle.std.proofs.Common.{map, refl}
+use Rattle.std.proofs.Common.{map, refl, ap, ◌∙◌}
 use Rattle.std.proofs.Common.{arith, nat_le, sum, None}
 use Rattle.std.proofs.lemmas.List.{append-nil}
 use Rattle.std.proofs.lemmas.Bool.Decides.{nat_tests}
@@ -12,6 +12,9 @@ use Rattle.transyt_net.specs.Parts.{Network}
 use Rattle.transyt_net.specs.Faults.{with_plan}
 use Rattle.transyt_make.specs.Draws.{draw, after_draws}
 use Rattle.transyt_make.specs.Made.{made_node, made_link, made_plan, with_feeds, made}
+use Rattle.transyt_make.specs.declared.town.Town.{Town}
+use Rattle.transyt_make.specs.declared.works.Works.{Works}
+use Rattle.transyt_make.specs.Works.{node_works, link_works, feed_works}
 
 -- the first stage is as long as the second one's change says, and the second takes the rest
 first_long : (c : ℕ) → c < 50 → minus_mod 50 c 0 ≡ c
@@ -43,13 +46,22 @@ no_fault seed a (suc n) =
     rw (plan_free (15 + second) (omega arith) (omega (arith, small))) (no_fault seed (a + 1) n)
 
 -- with its climb plan the network is the one that is made
-pub planned : (seed n : ℕ) (d e : Network) → d ≡ with_feeds seed n (4 * n) → e ≡ with_plan d made_plan
+planned : (seed n : ℕ) (d e : Network) → d ≡ with_feeds seed n (4 * n) → e ≡ with_plan d made_plan
     → e ≡ made seed n
 unfolding made
 planned seed n d e fed plan =
     let none : 4 * n - 4 * n ≡ 0 = omega arith in
     let links = map (made_link seed n) (range_with_len 0 (4 * n)) in
     rw (plan, fed, none, append-nil links)
+
+-- so the town that has its nodes, its links and their feeds is made
+pub filled : (town : Town) (a b c : Works) (e : Network) → a ≡ node_works town town.nodes
+    → b ≡ link_works a.town (4 * a.town.nodes) → c ≡ feed_works b.town (4 * b.town.nodes)
+    → e ≡ with_plan c.draft made_plan → e ≡ made town.seed town.nodes
+filled town a b c e nodes links feeds plan =
+    let same : b.town ≡ town = ap (λ (w : Works). w.town) links ∙ ap (λ (w : Works). w.town) nodes in
+    planned town.seed town.nodes c.draft e (
+    ap (λ (w : Works). w.draft) feeds ∙ ap (λ (t : Town). with_feeds t.seed t.nodes (4 * t.nodes)) same) plan
 
 -- so no plan of the network that is made has a fault
 pub made_planned : (seed n : ℕ) (d : Network) → d ≡ made seed n → first_fault d.frame.step_count d.nodes ≡ None

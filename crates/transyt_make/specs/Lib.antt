@@ -1,3 +1,4 @@
 pub mod Draws
 pub mod Made
 pub mod WorkedTowns
+pub mod Works

@@ -55,11 +55,13 @@ neighbour n place = beside n (node_at place) (side_at place)
 abbrev pub entry_from : ℕ → ℕ → Bool → ℕ
 entry_from seed k fed = if fed then draw seed k 41 else 300 + draw seed k 201
 
+-- the link at a place with this entry flow, without its feeds
+abbrev pub link_with : ℕ → ℕ → LinkValue
+link_with place entry = new_link (number_at place) (node_at place) entry 1800 1 1 0 0 (stage_at place ∷ [])
+
 -- a link without its feeds: its entry flow takes one draw, after those of the nodes
 abbrev pub bare_link : ℕ → ℕ → ℕ → LinkValue
-bare_link seed n place =
-    new_link (number_at place) (node_at place) (entry_from seed (2 * n + place) (is_some (neighbour n place)))
-    1800 1 1 0 0 (stage_at place ∷ [])
+bare_link seed n place = link_with place (entry_from seed (2 * n + place) (is_some (neighbour n place)))
 
 -- how many links before a place have a neighbour
 abbrev pub fed_before : ℕ → ℕ → ℕ

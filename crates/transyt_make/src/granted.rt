@@ -1,12 +1,13 @@
 //! Calls of a draft that have no fault, so that they fail only when out of memory.
-ghost use Rattle.std.specs.Prelude.{◌≡◌, ◌<◌, ◌≤◌, length, None, OnOk, ◌∷◌, []};
-ghost use Rattle.transyt_parts.specs.Made.{new_stage, new_link, new_feed, new_plan};
+ghost use Rattle.std.specs.Prelude.{◌≡◌, ◌<◌, length, None, OnOk};
+ghost use Rattle.transyt_parts.specs.Made.{new_stage};
 ghost use Rattle.transyt_net.specs.Faults.{node_fault, with_node, stage_fault, with_stage, link_fault, with_link};
 ghost use Rattle.transyt_net.specs.Faults.{feed_fault, with_feed, climb_fault, with_plan};
-ghost use Rattle.transyt_make.specs.Made.{made_plan};
+ghost use Rattle.transyt_make.specs.Made.{link_with, made_plan};
 
+use crate::approach::Approach;
 use std::alloc::AllocError;
-use transyt_net::{Draft, DraftFault, NewLink, Weights};
+use transyt_net::{Draft, DraftFault, Feed, NewLink, Weights};
 
 /// Adds a node.
 pub(crate) fn grant_node(draft: &mut Draft, number: u32, offset: u32) -> Result<(), AllocError>
@@ -20,46 +21,38 @@ pub(crate) fn grant_node(draft: &mut Draft, number: u32, offset: u32) -> Result<
     }
 }
 
-/// Adds a stage of the last node.
-pub(crate) fn grant_stage(
-    draft: &mut Draft,
-    change: u32,
-    intergreen: u32,
-    least: u32,
-) -> Result<(), AllocError>
+/// Adds a stage of the last node, which begins at `change`.
+pub(crate) fn grant_stage(draft: &mut Draft, change: u32) -> Result<(), AllocError>
     requires some { 0 < length draft.old.nodes }
-    requires free { stage_fault draft.old (new_stage change intergreen least) ≡ None }
-    ensures { OnOk result (draft.new ≡ with_stage draft.old (new_stage change intergreen least)) }
+    requires free { stage_fault draft.old (new_stage change 3 4) ≡ None }
+    ensures { OnOk result (draft.new ≡ with_stage draft.old (new_stage change 3 4)) }
 {
-    match draft.stage(change, intergreen, least) {
+    match draft.stage(change, 3, 4) {
         Ok(()) => Ok(()),
         Err(DraftFault::Memory) => Err(AllocError),
         Err(_) => unreachable!(),
     }
 }
 
-/// Adds a link of saturation flow 1,800, weights of 1 and no lags, which runs in one stage.
+/// Adds the link of an approach, with saturation flow 1,800, weights of 1 and no lags.
 pub(crate) fn grant_link(
     draft: &mut Draft,
-    number: u32,
-    node: u32,
+    approach: Approach,
     entry: u32,
-    stage: u32,
 ) -> Result<(), AllocError>
-    requires { link_fault draft.old (new_link number node entry 1800 1 1 0 0 (stage ∷ [])) ≡ None }
-    ensures { OnOk result (draft.new
-        ≡ with_link draft.old (new_link number node entry 1800 1 1 0 0 (stage ∷ []))) }
+    requires { link_fault draft.old (link_with approach.place entry) ≡ None }
+    ensures { OnOk result (draft.new ≡ with_link draft.old (link_with approach.place entry)) }
 {
     let link = NewLink {
-        number,
-        node,
+        number: approach.number(),
+        node: approach.node(),
         entry,
         saturation: 1800,
         weights: Weights { delay: 1, stop: 1 },
         start_lag: 0,
         end_lag: 0,
     };
-    match draft.link(link, &[stage]) {
+    match draft.link(link, &[approach.stage()]) {
         Ok(()) => Ok(()),
         Err(DraftFault::Memory) => Err(AllocError),
         Err(_) => unreachable!(),
@@ -67,17 +60,11 @@ pub(crate) fn grant_link(
 }
 
 /// Adds a feed of a link.
-pub(crate) fn grant_feed(
-    draft: &mut Draft,
-    link: u32,
-    feeder: u32,
-    flow: u32,
-    cruise: u32,
-) -> Result<(), AllocError>
-    requires { feed_fault draft.old link (new_feed feeder flow cruise) ≡ None }
-    ensures { OnOk result (draft.new ≡ with_feed draft.old link (new_feed feeder flow cruise)) }
+pub(crate) fn grant_feed(draft: &mut Draft, link: u32, feed: Feed) -> Result<(), AllocError>
+    requires { feed_fault draft.old link feed ≡ None }
+    ensures { OnOk result (draft.new ≡ with_feed draft.old link feed) }
 {
-    match draft.feed(link, feeder, flow, cruise) {
+    match draft.feed(link, feed.feeder, feed.flow, feed.cruise) {
         Ok(()) => Ok(()),
         Err(DraftFault::Memory) => Err(AllocError),
         Err(_) => unreachable!(),

@@ -8,6 +8,7 @@
 //! the multiplier is the one of the C standard's example.
 #![tactic(auto)]
 
+mod approach;
 mod draws;
 mod feeds;
 mod granted;
@@ -15,7 +16,9 @@ mod laws;
 mod links;
 mod making;
 mod nodes;
+mod three_feeds;
 mod town;
+mod works;
 
 pub use draws::Draws;
 pub use laws::worked_towns;

@@ -2,6 +2,7 @@
 ghost use Rattle.std.specs.Prelude.{◌≡◌, ◌≤◌, IfOk, OnOk};
 ghost use Rattle.transyt_net.specs.Faults.{empty};
 ghost use Rattle.transyt_make.specs.Made.{made, made_frame};
+ghost use Rattle.transyt_make.specs.Works.{node_works};
 
 use crate::draws::Draws;
 use crate::feeds::put_feeds;
@@ -9,11 +10,12 @@ use crate::granted::grant_plan;
 use crate::links::put_links;
 use crate::nodes::put_nodes;
 use crate::town::Town;
+use crate::works::Works;
 use std::alloc::{AllocError, Global};
 use transyt_net::{Draft, Frame, Net};
 
 /// A draft with nothing in it.
-fn begin(alloc: Global) -> Draft
+fn empty(alloc: Global) -> Draft
     ensures { result ≡ empty made_frame }
 {
     let frame = Frame {
@@ -30,17 +32,26 @@ fn begin(alloc: Global) -> Draft
     }
 }
 
-/// Fills an empty draft with the nodes, the links, their feeds and the climb plan.
-fn fill(town: Town, draft: &mut Draft) -> Result<(), AllocError>
-    requires { draft.old ≡ empty made_frame }
-    ensures { OnOk result (draft.new ≡ made town.seed town.nodes) }
+/// A town of which nothing is made yet.
+fn begin(alloc: Global, town: Town) -> Works
+    ensures { result ≡ node_works town 0 }
 {
-    let mut draws = Draws::new(town.seed);
-    put_nodes(town, &mut draws, draft)?;
-    put_links(town, &mut draws, draft)?;
-    put_feeds(town, &mut draws, draft)?;
-    grant_plan(draft)?;
-    Ok(())
+    Works {
+        town,
+        draws: Draws::new(town.seed),
+        draft: empty(alloc),
+    }
+}
+
+/// Makes the nodes, the links, their feeds and the climb plan of a town of which nothing is made yet.
+fn fill(works: &mut Works) -> Result<(), AllocError>
+    requires { works.old ≡ node_works works.old.town 0 }
+    ensures { OnOk result (works.new.draft ≡ made works.old.town.seed works.old.town.nodes) }
+{
+    put_nodes(works)?;
+    put_links(works)?;
+    put_feeds(works)?;
+    grant_plan(&mut works.draft)
 }
 
 /// The network of a seed: so many junctions in rows of eight, each link but those from outside fed by the neighbour
@@ -54,11 +65,11 @@ pub fn make_net(alloc: Global, seed: u32, nodes: u32) -> Result<Net, AllocError>
     requires most { nodes ≤ 200 }
     ensures { IfOk result (λ net. net ≡ made seed nodes) }
 {
-    let mut draft = begin(alloc);
-    if let Err(e) = fill(Town { seed, nodes }, &mut draft) {
+    let mut works = begin(alloc, Town { seed, nodes });
+    if let Err(e) = fill(&mut works) {
         // dropped by a call, since a draft that falls out of scope is taken apart here
-        drop(draft);
+        drop(works);
         return Err(e);
     }
-    Ok(draft.close())
+    Ok(works.into_draft().close())
 }

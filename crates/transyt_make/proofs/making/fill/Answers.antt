@@ -1,6 +1,11 @@
--- The filled draft is the network of the seed.
-use Rattle.transyt_make.proofs.PlanLaws.{planned}
+-- The town that is filled is the network of the seed.
+use Rattle.std.proofs.lemmas.Result.{on_ok_weaker}
+use Rattle.transyt_make.proofs.PlanLaws.{filled}
 use Rattle.transyt_make.proofs.making.fill.Goals as goal
 
 pub returns : goal.returns
-returns c = planned c.args.town.seed c.args.town.nodes _ _ c.in_ok-put_feeds.ensures c.in_ok-grant_plan.ensures
+returns c =
+    on_ok_weaker c.grant_plan.result
+    (filled c.args.works.now.town _ _ _ _ c.in_ok-put_nodes.ensures c.in_ok-put_links.ensures
+    c.in_ok-put_feeds.ensures)
+    c.grant_plan.ensures

@@ -1,33 +1,48 @@
 -- The draft ends in the new node, which takes its two stages.
-use Rattle.std.proofs.Common.{length, ap, ◌∙◌, ◌+◌, arith, length-append, ◌∷◌, []}
+use Rattle.std.proofs.Common.{◌+◌, ap, ◌∙◌, arith}
 use Rattle.std.proofs.lemmas.Result.{on_ok_weaker}
 use Rattle.transyt_parts.specs.Made.{new_node, new_stage, add_stage}
 use Rattle.transyt_net.specs.Parts.{Network}
-use Rattle.transyt_make.proofs.NodeLaws.{stage_free, first_stage, second_stage}
+use Rattle.transyt_make.specs.declared.works.Works.{Works}
+use Rattle.transyt_make.proofs.NodeLaws.{next_free, stage_free, first_stage, second_stage, node_done}
 use Rattle.transyt_make.proofs.nodes.put_node.Goals as goal
 
--- there is a node
-pub grant_stage-requires-2-clause-some : goal.grant_stage-requires-2-clause-some
-grant_stage-requires-2-clause-some c =
-    let before = c.args.draft.now in
-    let n = add_stage (new_stage 0 3 4) (new_node (c.args.place + 1) c.args.offset) in
-    let so_far = first_stage before _ _ c.args.place c.args.offset c.in_ok-grant_node.ensures c.in_ok-grant_stage.ensures in
-    omega (arith, ap (λ (d : Network). length d.nodes) so_far, length-append before.nodes (n ∷ []))
+-- the node has no fault
+pub grant_node-requires : goal.grant_node-requires
+grant_node-requires c =
+    next_free c.args.works.now.town c.args.works.now c.args.place _ c.requires.before c.requires.place
+    c.draw-offset.ensures.below
 
--- its second stage has no fault
+-- nor has its first stage
+pub grant_stage-requires-clause-free : goal.grant_stage-requires-clause-free
+grant_stage-requires-clause-free c =
+    let before = c.args.works.now.draft in
+    let made = c.in_ok-grant_node.ensures in
+    stage_free c.grant_node.new.draft before.nodes (new_node (c.args.place + 1) c.draw-offset.result) 0
+    (ap (λ (d : Network). d.frame.step_count) made
+    ∙ ap (λ (w : Works). w.draft.frame.step_count) c.requires.before)
+    (ap (λ (d : Network). d.nodes) made) (omega arith) (omega arith)
+
+-- nor its second
 pub grant_stage-requires-2-clause-free : goal.grant_stage-requires-2-clause-free
 grant_stage-requires-2-clause-free c =
-    let before = c.args.draft.now in
-    let n = add_stage (new_stage 0 3 4) (new_node (c.args.place + 1) c.args.offset) in
-    let so_far = first_stage before _ _ c.args.place c.args.offset c.in_ok-grant_node.ensures c.in_ok-grant_stage.ensures in
-    stage_free c.grant_stage.new.draft before.nodes n c.args.change
-    (ap (λ (d : Network). d.frame.step_count) so_far ∙ c.requires.steps) (ap (λ (d : Network). d.nodes) so_far)
-    (omega arith) c.requires.change
+    let before = c.args.works.now.draft in
+    let n = add_stage (new_stage 0 3 4) (new_node (c.args.place + 1) c.draw-offset.result) in
+    let made = first_stage before _ _ c.args.place c.draw-offset.result c.in_ok-grant_node.ensures
+    c.in_ok-grant_stage.ensures in
+    stage_free c.grant_stage.new.draft before.nodes n (15 + c.draw-change.result)
+    (ap (λ (d : Network). d.frame.step_count) made
+    ∙ ap (λ (w : Works). w.draft.frame.step_count) c.requires.before)
+    (ap (λ (d : Network). d.nodes) made) (omega arith) (omega (arith, c.draw-change.ensures.below))
 
--- both stages stand
+-- with both it is the next node
 pub returns : goal.returns
 returns c =
-    let before = c.args.draft.now in
-    let so_far = first_stage before _ _ c.args.place c.args.offset c.in_ok-grant_node.ensures c.in_ok-grant_stage.ensures in
-    on_ok_weaker c.grant_stage-2.result (second_stage before _ _ c.args.place c.args.offset c.args.change so_far)
+    let w = c.args.works.now in
+    let made = first_stage w.draft _ _ c.args.place c.draw-offset.result c.in_ok-grant_node.ensures
+    c.in_ok-grant_stage.ensures in
+    on_ok_weaker c.grant_stage-2.result
+    (λ stage. node_done w.town w c.args.place _ _ _ _ _ c.requires.before c.draw-offset.ensures.value
+    c.draw-offset.ensures.taken c.draw-change.ensures.value c.draw-change.ensures.taken
+    (second_stage w.draft _ _ c.args.place c.draw-offset.result (15 + c.draw-change.result) made stage))
     c.grant_stage-2.ensures
