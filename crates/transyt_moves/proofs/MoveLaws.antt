@@ -1,6 +1,6 @@
 -- The list of moves, place by place.
 use Rattle.std.proofs.Common.{◌≡◌, ℕ, zero, suc, ◌+◌, ◌-◌, ◌*◌, ◌/◌, ◌%◌, ◌<◌, List, [], ◌∷◌, ◌++◌, length, get_or}
-use Rattle.std.proofs.Common.{Bool, true, false, ◌==◌, refl, ap, ◌∙◌, arith, length-append, zero-add}
+use Rattle.std.proofs.Common.{Bool, true, false, ◌==◌, refl, ap, sym, ◌∙◌, arith, length-append, zero-add}
 use Rattle.std.specs.List.{flat_map, range_with_len}
 use Rattle.std.proofs.lemmas.List.{get_or_append_left, get_or-append_right}
 use Rattle.std.proofs.lemmas.List.Concat.{flat_map-cons}
@@ -10,7 +10,7 @@ use Rattle.transyt_parts.specs.Parts.{NodeValue}
 use Rattle.transyt_parts.specs.Plan.{stage_of}
 use Rattle.transyt_net.specs.declared.edit.Edit.TheVariants.{Change}
 use Rattle.transyt_moves.specs.Moves.{shifted, offset_moves, change_moves, node_moves, size_moves, sizes_of}
-use Rattle.transyt_moves.specs.Moves.{no_move, move_count}
+use Rattle.transyt_moves.specs.Moves.{no_move, move_count, move}
 use Rattle.transyt_net.specs.Parts.{Network}
 
 module _ {X A : Type 0} (f : X → List A) where
@@ -84,12 +84,27 @@ parted n (suc c) p inside =
     let piece = (div-lt_iff_lt-mul {k = suc c} {x = p} {y = n} (omega arith)).1 inside in
     grind (arith, piece, mod-lt p {m = suc c} (omega arith), mod-add-div' p (suc c))
 
--- a place among the moves of these sizes
-pub among_sizes : (steps : ℕ) (nodes : List NodeValue) (sizes : List ℕ) (each place : ℕ)
-    → ((size : ℕ) → length (size_moves steps nodes size) ≡ each)
-    → place < length (flat_map (size_moves steps nodes) sizes) → IsParted (length sizes) each place
-among_sizes steps nodes sizes each place same inside =
-    parted (length sizes) each place (omega (arith, inside, length_pieces (size_moves steps nodes) each same sizes))
+-- the moves of a network are those of these nodes by these sizes, and each size has `each`
+module _ (net : Network) (steps : ℕ) (nodes : List NodeValue) (sizes : List ℕ) (each place : ℕ)
+    (its_steps : steps ≡ net.frame.step_count) (its_nodes : nodes ≡ net.nodes) (its_sizes : sizes ≡ sizes_of net.plan)
+    (same : (size : ℕ) → length (size_moves steps nodes size) ≡ each) (inside : place < move_count net) where
+  -- a place of the list is a size, and a rest within the moves by it
+  pub among_moves : IsParted (length sizes) each place
+  unfolding move_count
+  among_moves =
+      let all : place < length (flat_map (size_moves steps nodes) sizes) =
+      rw (its_steps, its_nodes, its_sizes) inside in
+      parted (length sizes) each place (omega (arith, all, length_pieces (size_moves steps nodes) each same sizes))
+
+  -- and the move there is the one at the rest
+  pub move_among : get_or (size_moves steps nodes (get_or sizes (place / each) 0)) (place % each) no_move
+      ≡ move net place
+  unfolding move
+  move_among =
+      let part = among_moves in
+      sym (at_piece (size_moves steps nodes) each same sizes (place / each) (place % each) place 0 no_move part.piece
+      part.left part.whole)
+      ∙ (λ j. get_or (flat_map (size_moves (its_steps j) (its_nodes j)) (its_sizes j)) place no_move)
 
 -- how many moves there are
 pub count_is : (net : Network) (each : ℕ)

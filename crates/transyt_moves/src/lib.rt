@@ -8,6 +8,7 @@
 
 mod laws;
 mod listed;
+mod nodes;
 
 pub use laws::worked_moves;
 pub use listed::{move_at, move_count};

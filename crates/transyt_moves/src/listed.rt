@@ -7,6 +7,7 @@ ghost use Rattle.transyt_net.specs.declared.edit.Edit.{Edit};
 ghost use Rattle.std.specs.List.{flat_map};
 ghost use Rattle.transyt_moves.specs.Moves.{sizes_of, shifted, node_moves, size_moves, no_move, move_count, move};
 
+use crate::nodes::{Nodes, SizeMoves};
 use transyt_cycle::minus_mod;
 use transyt_net::{Edit, Net, Node};
 
@@ -16,7 +17,7 @@ pub fn move_count(net: &Net) -> u32
     ensures count { result ≡ move_count net.now }
     ensures most { result ≤ 57600 }
 {
-    let each = nodes_count(net.frame().step_count, net.nodes());
+    let each = nodes_count(&nodes(net));
     sizes(net).len() as u32 * each
 }
 
@@ -25,7 +26,21 @@ pub fn move_at(net: &Net, place: u32) -> Edit
     requires { place < move_count net.now }
     ensures { result ≡ move net.now place }
 {
-    listed_move(net.frame().step_count, net.nodes(), sizes(net), place)
+    let nodes = nodes(net);
+    let each = nodes_count(&nodes);
+    let size = sizes(net)[(place / each) as usize];
+    size_move(&SizeMoves { nodes, size }, place % each)
+}
+
+/// The nodes of a network.
+fn nodes(net: &Net) -> Nodes<'_>
+    ensures steps { result.step_count ≡ net.now.frame.step_count }
+    ensures list { result.list.now ≡ net.now.nodes }
+{
+    Nodes {
+        step_count: net.frame().step_count,
+        list: net.nodes(),
+    }
 }
 
 /// The sizes of the climb plan; none where there is none.
@@ -40,31 +55,14 @@ fn sizes(net: &Net) -> &[u32]
     }
 }
 
-/// The move at a place of those of all sizes.
-fn listed_move(step_count: u32, nodes: &[Node], sizes: &[u32], place: u32) -> Edit
-    requires steps { 0 < step_count }
-    requires few_steps { step_count ≤ 120 }
-    requires few { length nodes.now ≤ 200 }
-    requires nodes { All (IsNode step_count) nodes.now }
-    requires sizes { All (λ size. size < step_count) sizes.now }
-    requires place { place < length (flat_map (size_moves step_count nodes.now) sizes.now) }
-    ensures { result ≡ slice_index_or (flat_map (size_moves step_count nodes.now) sizes.now) place
-        no_move }
-{
-    let each = nodes_count(step_count, nodes);
-    let size = sizes[(place / each) as usize];
-    size_move(step_count, nodes, size, place % each)
-}
-
 /// How many moves of one size there are.
-fn nodes_count(step_count: u32, nodes: &[Node]) -> u32
-    requires few { length nodes.now ≤ 200 }
-    requires nodes { All (IsNode step_count) nodes.now }
-    ensures count { (size : ℕ) → length (size_moves step_count nodes.now size) ≡ result }
+fn nodes_count(nodes: &Nodes<'_>) -> u32
+    ensures count { (size : ℕ)
+        → length (size_moves nodes.now.step_count nodes.now.list.now size) ≡ result }
     ensures most { result ≤ 3600 }
 {
     let mut count = 0;
-    for node in nodes {
+    for node in nodes.list {
         count += node_count(node);
     }
     count
@@ -80,19 +78,17 @@ fn node_count(node: &Node) -> u32
 }
 
 /// The move at a place of those by one size.
-fn size_move(step_count: u32, nodes: &[Node], size: u32, place: u32) -> Edit
-    requires steps { 0 < step_count }
-    requires few_steps { step_count ≤ 120 }
-    requires size { size < step_count }
-    requires nodes { All (IsNode step_count) nodes.now }
-    requires place { place < length (size_moves step_count nodes.now size) }
-    ensures { result ≡ slice_index_or (size_moves step_count nodes.now size) place no_move }
+fn size_move(moves: &SizeMoves<'_>, place: u32) -> Edit
+    requires { place < length (size_moves moves.now.nodes.step_count moves.now.nodes.list.now
+        moves.now.size) }
+    ensures { result ≡ slice_index_or (size_moves moves.now.nodes.step_count
+        moves.now.nodes.list.now moves.now.size) place no_move }
 {
     let mut left = place;
-    for node in nodes {
+    for node in moves.nodes.list {
         let count = node_count(node);
         if left < count {
-            return node_move(step_count, node, size, left);
+            return node_move(moves, node, left);
         }
         left -= count;
     }
@@ -100,44 +96,40 @@ fn size_move(step_count: u32, nodes: &[Node], size: u32, place: u32) -> Edit
 }
 
 /// The move at a place of those of a node.
-fn node_move(step_count: u32, node: &Node, size: u32, place: u32) -> Edit
-    requires steps { 0 < step_count }
-    requires few_steps { step_count ≤ 120 }
-    requires size { size < step_count }
-    requires node { IsNode step_count node.now }
+fn node_move(moves: &SizeMoves<'_>, node: &Node, place: u32) -> Edit
+    requires node { IsNode moves.now.nodes.step_count node.now }
     requires place { place < 2 + 2 * length node.now.stages }
-    ensures { result ≡ slice_index_or (node_moves step_count size node.now) place no_move }
+    ensures { result ≡ slice_index_or (node_moves moves.now.nodes.step_count moves.now.size
+        node.now) place no_move }
 {
     let back = place % 2 == 1;
     if place < 2 {
         return Edit::Offset {
             node: node.number,
-            offset: shifted(step_count, node.offset, size, back),
+            offset: shifted(moves, node.offset, back),
         };
     }
     let stage = place / 2;
     Edit::Change {
         node: node.number,
         stage,
-        change: shifted(
-            step_count,
-            node.stages[stage as usize - 1].change,
-            size,
-            back,
-        ),
+        change: shifted(moves, node.stages[stage as usize - 1].change, back),
     }
 }
 
-/// A step moved by a size, on or back, round the cycle.
-fn shifted(step_count: u32, step: u32, size: u32, back: bool) -> u32
-    requires few_steps { step_count ≤ 120 }
-    requires step { step < step_count }
-    requires size { size < step_count }
-    ensures { result ≡ shifted back step_count step size }
+/// A step moved by the size, on or back, round the cycle.
+fn shifted(moves: &SizeMoves<'_>, step: u32, back: bool) -> u32
+    requires { step < moves.now.nodes.step_count }
+    ensures { result ≡ shifted back moves.now.nodes.step_count step moves.now.size }
 {
+    let step_count = moves.nodes.step_count;
     if back {
-        minus_mod(u64::from(step_count), u64::from(step), u64::from(size)) as u32
+        minus_mod(
+            u64::from(step_count),
+            u64::from(step),
+            u64::from(moves.size),
+        ) as u32
     } else {
-        (step + size) % step_count
+        (step + moves.size) % step_count
     }
 }

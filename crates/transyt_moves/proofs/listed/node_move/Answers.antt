@@ -22,5 +22,5 @@ returns c =
     ∙ get_or_default _ _ _ no_stage inside in
     let name = ap (λ (n : NodeValue). n.number) c.node.view_is in
     (λ j. Change (name j) (number j) ((c.shifted-2.ensures
-    ∙ ap (λ (s : Stage). shifted (c.args.place % 2 == 1) c.args.step_count s.change c.args.size) stage) j))
-    ∙ sym (stage_move c.args.step_count c.args.size _ i _ c.args.place inside refl number)
+    ∙ ap (λ (s : Stage). shifted (c.args.place % 2 == 1) c.args.moves.now.nodes.step_count s.change c.args.moves.now.size) stage) j))
+    ∙ sym (stage_move c.args.moves.now.nodes.step_count c.args.moves.now.size _ i _ c.args.place inside refl number)

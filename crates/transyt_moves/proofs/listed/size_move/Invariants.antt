@@ -6,7 +6,8 @@ use Rattle.transyt_moves.proofs.listed.size_move.Given as goal
 -- the rest of the place counts among the moves of the nodes from here on
 abbrev pub invariant-loop-node : goal.invariant-loop-node
 invariant-loop-node l = record {
-  inside : l.left < length (size_moves l.step_count (drop l.node-index l.nodes) l.size);
-  same : get_or (size_moves l.step_count l.nodes l.size) l.place no_move
-      ≡ get_or (size_moves l.step_count (drop l.node-index l.nodes) l.size) l.left no_move;
+  inside : l.left < length (size_moves l.moves.nodes.step_count (drop l.node-index l.moves.nodes.list.now) l.moves.size);
+  same : get_or (size_moves l.moves.nodes.step_count l.moves.nodes.list.now l.moves.size) l.place no_move
+      ≡ get_or (size_moves l.moves.nodes.step_count (drop l.node-index l.moves.nodes.list.now) l.moves.size) l.left
+      no_move;
 }
