@@ -1,22 +1,25 @@
 #!/usr/bin/env python3
-"""worth.py [NETWORK..]: what offsets of a lower index are worth in SUMO, and what those of its tlsCoordinator are.
+"""worth.py [--jobs N] [NETWORK..]: what offsets of a lower index are worth in SUMO, and those of its tlsCoordinator.
 
 python3 examples/sumo/worth.py > examples/sumo/worth.md
 
-The greens are those of `equisat`, and stay: the least green of each stage is its green, so a climb moves offsets alone.
-Each network is driven by four plans, with the same cars and the same seeds: all offsets 0; those of tlsCoordinator.py,
-which reads that network and the cars that are driven; and two of one climb, that of the best of some starts: where its
-index was nearest to 5 in 100 above its end, and its end. NETWORK, from 1, names those that are driven; all of them take
-some seven minutes on two processors.
+The greens are the deck's own or those of `equisat`, and stay: the least green of each stage is its green, so a climb
+moves offsets alone. Each network is driven by four plans, with the same cars and the same seeds: the deck's offsets;
+those of tlsCoordinator.py, which reads that network and the cars that are driven, and the deck's where it gives none;
+and two of one climb, that of the best of some starts: where its index was nearest to 5 in 100 above its end, and its
+end. NETWORK, from 1, names those that are driven; all of them take some ten minutes. `--jobs` is how many runs are made
+at once (2).
 """
 
+import argparse
 import os
 import statistics
 import sys
 import tempfile
+import xml.etree.ElementTree as ElementTree
 from concurrent.futures import ThreadPoolExecutor
 from dataclasses import dataclass, replace
-from typing import Dict, List, Sequence, Tuple
+from typing import Dict, List, NamedTuple, Optional, Sequence, Tuple
 
 ROOT = os.path.dirname(os.path.dirname(os.path.dirname(os.path.realpath(__file__))))
 sys.path.insert(0, os.path.join(ROOT, "python"))
@@ -28,37 +31,64 @@ from transyt.sumo.calibrate import calibrate  # noqa: E402
 from transyt.sumo.drive import Measures, Run, drive, put_signals, write_signals  # noqa: E402
 from transyt.sumo.giving import as_drawn  # noqa: E402
 from transyt.sumo.network import Net, build  # noqa: E402
+from transyt.sumo.netfile import read_root  # noqa: E402
 from transyt.sumo.plans import row, sumo_version, write_all_cars  # noqa: E402
-from transyt.sumo.tools import run_tool  # noqa: E402
+from transyt.sumo.tools import run_tool, write_xml  # noqa: E402
+from transyt.terminal import progress  # noqa: E402
 
 TOWN = "town.net.xml"
 SEEDS = (1, 2, 3)
 STARTS, BUDGET = 30, 100_000
 ABOVE = 1.05  # of the best index, where a climb is looked at before its end
-PLANS = ("all offsets 0", "`tlsCoordinator`", "the climb, 5 in 100 above its end", "the end of the climb")
-ZERO, COORDINATED, NEAR, BEST = PLANS
+PLANS = ("the deck's offsets", "`tlsCoordinator`", "the climb, 5 in 100 above its end", "the end of the climb")
+BEFORE, COORDINATED, NEAR, BEST = PLANS
+OWN, EQUAL = "the deck's", "`equisat`"
+ROAD, GRID, FULL = "road", "grid", "near saturation"
 
 
-@dataclass(frozen=True)
-class Network:
-    """A network: its name, its deck's file or the words that make it, and what all its flows are multiplied by."""
+class Network(NamedTuple):
+    """A network: its kind, whose greens, its deck's file or the words that make it, and how full it is made, if it is.
 
-    name: str
-    deck: Sequence[object]
-    times: float = 1
+    `full` is the degree of saturation that its fullest junction is to have by `equisat`: all flows are multiplied.
+    """
+
+    kind: str
+    greens: str
+    deck: Tuple[object, ...]
+    full: Optional[float] = None
+
+    @property
+    def name(self) -> str:
+        """As the tables have it."""
+        return f"{self.kind}: `{' '.join(map(str, self.deck))}`{f' at {self.full:.2f}' if self.full else ''}"
 
     def read(self) -> Deck:
-        """The deck with greens of equal saturation that fill their stages, and all offsets 0."""
+        """The deck with its greens, which fill their stages."""
         if len(self.deck) == 1:
             with open(os.path.join(ROOT, str(self.deck[0])), encoding="utf-8") as file:
                 deck = read_deck(file.read())
         else:
             deck = read_deck("\n".join(Program().answer(self.deck)) + "\n")
-        links = tuple(busier(link, self.times) for link in deck.links)
-        deck = Program().balanced(as_drawn(replace(deck, links=links), lambda _: None))
-        nodes = tuple(held(node, deck.frame.step_count) for node in deck.nodes)
+        deck = as_drawn(deck, lambda _: None)
+        if self.full:
+            deck = busier(deck, self.full / fullest(deck))
+        deck = Program().balanced(deck) if self.greens == EQUAL else deck
         sizes = deck.climb_plan.sizes if deck.climb_plan else (1, 8, 20)
-        return replace(deck, nodes=nodes, climb_plan=ClimbPlan(BUDGET, sizes)).bare()
+        nodes = tuple(with_full_stages(node, deck.frame.step_count) for node in deck.nodes)
+        return replace(deck, nodes=nodes, climb_plan=ClimbPlan(BUDGET, sizes))
+
+
+NETWORKS = (
+    Network(ROAD, OWN, ("examples/arterial.deck",)),
+    Network(ROAD, EQUAL, ("examples/arterial.deck",)),
+    Network(ROAD, EQUAL, ("make", 1, 6)),
+    Network(ROAD, EQUAL, ("make", 2, 6)),
+    Network(GRID, OWN, ("examples/town.deck",)),
+    Network(GRID, EQUAL, ("examples/town.deck",)),
+    Network(GRID, EQUAL, ("make", 1, 12)),
+    Network(FULL, EQUAL, ("examples/town.deck",), 0.9),
+    Network(FULL, EQUAL, ("make", 1, 12), 0.95),
+)
 
 
 @dataclass(frozen=True)
@@ -78,29 +108,30 @@ class Driven:
         return [one.delay / other.delay for one, other in zip(self.runs, before.runs)]
 
 
-NETWORKS = (
-    Network("a road of 6 junctions, `examples/arterial.deck`", ["examples/arterial.deck"]),
-    Network("a grid of 12 junctions, `make 1 12`", ["make", 1, 12]),
-    Network("a grid of 9 junctions near saturation, `make 9 9` with 1.45 times its flows", ["make", 9, 9], 1.45),
-)
+def busier(deck: Deck, times: float) -> Deck:
+    """A deck with its flows multiplied."""
+    def link_of(link: Link) -> Link:
+        feeds = tuple(replace(feed, flow=round(feed.flow * times)) for feed in link.feeds)
+        return replace(link, entry=round(link.entry * times), feeds=feeds)
+
+    return replace(deck, links=tuple(map(link_of, deck.links)))
 
 
-def busier(link: Link, times: float) -> Link:
-    """A link with its flows multiplied."""
-    feeds = tuple(replace(feed, flow=round(feed.flow * times)) for feed in link.feeds)
-    return replace(link, entry=round(link.entry * times), feeds=feeds)
-
-
-def held(node: Node, step_count: int) -> Node:
-    """A node with offset 0, at which each stage's least green is its green."""
+def with_full_stages(node: Node, step_count: int) -> Node:
+    """A node at which each stage's least green is its green."""
     stages = tuple(replace(stage, least=node.length(place, step_count) - stage.intergreen)
                    for place, stage in enumerate(node.stages, 1))
-    return replace(node, offset=0, stages=stages)
+    return replace(node, stages=stages)
 
 
-def fullest(network: Network) -> float:
+def without_offsets(deck: Deck) -> Deck:
+    """The deck with all offsets 0."""
+    return replace(deck, nodes=tuple(replace(node, offset=0) for node in deck.nodes))
+
+
+def fullest(deck: Deck) -> float:
     """The degree of saturation of the fullest junction, by `equisat`."""
-    return max(node.top / node.base for node in Program().balance(network.read()))
+    return max(node.top / node.base for node in Program().balance(deck))
 
 
 def index_of(deck: Deck) -> int:
@@ -112,7 +143,7 @@ def index_of(deck: Deck) -> int:
 def climbed(deck: Deck, first: int, count: int, budget: int = BUDGET) -> Rows:
     """What some starts come to with a budget."""
     wanted = replace(deck, climb_plan=replace(deck.climb_plan, budget=budget) if deck.climb_plan else None)
-    return read_rows(Program().answer(["starts", 2, 1, count, first], str(wanted)))
+    return read_rows(Program().answer(["starts", 1, 1, count, first], str(wanted)))
 
 
 def two_of_a_climb(deck: Deck) -> Tuple[Rows, Rows]:
@@ -135,13 +166,24 @@ def index_in(one: Row) -> int:
     return one.index or 0
 
 
-def coordinate(folder: str, seed: int) -> str:
-    """Has tlsCoordinator write the offsets for the cars of a seed, and tells their file."""
+def coordinate(deck: Deck, folder: str, seed: int) -> str:
+    """Has tlsCoordinator give offsets for the cars of a seed, adds the deck's where it gives none, tells their file."""
     tools = os.path.join(os.environ.get("SUMO_HOME", "/usr/share/sumo"), "tools")
-    name = f"coordinated{seed}.add.xml"
+    given, name = f"given{seed}.add.xml", f"coordinated{seed}.add.xml"
     run_tool([sys.executable, os.path.join(tools, "tlsCoordinator.py"), "--net-file", TOWN,
-              "--route-file", cars_of(seed), "--output-file", name], folder)
+              "--route-file", cars_of(seed), "--output-file", given], folder)
+    offsets = held(deck, read_root(os.path.join(folder, given)))
+    write_xml(os.path.join(folder, name), "additional", (
+        ("tlLogic", {"id": junction, "programID": "0", "offset": f"{offset:.2f}"})
+        for junction, offset in offsets.items()))
     return name
+
+
+def held(deck: Deck, given: ElementTree.Element) -> Dict[str, float]:
+    """The offset of each junction in seconds: the one that is given, and the deck's where none is."""
+    offsets = {f"node{node.number}": node.offset * deck.frame.step_seconds for node in deck.nodes}
+    offsets.update({logic.attrib["id"]: float(logic.attrib["offset"]) for logic in given.iterfind("tlLogic")})
+    return offsets
 
 
 def cars_of(seed: int) -> str:
@@ -149,13 +191,13 @@ def cars_of(seed: int) -> str:
     return f"cars-{seed}.rou.xml"
 
 
-def drive_all(decks: Dict[str, Deck], folder: str) -> Dict[str, List[Measures]]:
-    """Drives the plans of a network, and tlsCoordinator's offsets of the first one, each with the cars of each seed."""
-    before = decks[ZERO]
+def drive_all(decks: Dict[str, Deck], folder: str, jobs: int) -> Dict[str, List[Measures]]:
+    """Drives the plans of a network, and tlsCoordinator's offsets, each with the cars of each seed."""
+    before = decks[BEFORE]
     net: Net = build(before, folder)
     write_all_cars(before, calibrate(before, os.path.join(folder, "calibration")), folder, SEEDS)
-    put_signals(before, net, os.path.join(folder, TOWN))
-    files = {(COORDINATED, seed): coordinate(folder, seed) for seed in SEEDS}
+    put_signals(without_offsets(before), net, os.path.join(folder, TOWN))
+    files = {(COORDINATED, seed): coordinate(before, folder, seed) for seed in SEEDS}
     for place, (name, deck) in enumerate(decks.items()):
         write_signals(deck, net, os.path.join(folder, f"plan{place}.add.xml"))
         files.update({(name, seed): f"plan{place}.add.xml" for seed in SEEDS})
@@ -164,21 +206,21 @@ def drive_all(decks: Dict[str, Deck], folder: str) -> Dict[str, List[Measures]]:
         return drive(before, net, Run(folder, before.frame.cycle, files[asked], cars_of(asked[1]), asked[1]))
 
     asked = [(name, seed) for name in PLANS for seed in SEEDS]
-    with ThreadPoolExecutor(2) as pool:
+    with ThreadPoolExecutor(jobs) as pool:
         found = dict(zip(asked, pool.map(one, asked)))
     return {name: [found[name, seed] for seed in SEEDS] for name in PLANS}
 
 
-def driven(network: Network) -> Dict[str, Driven]:
+def driven(network: Network, jobs: int) -> Dict[str, Driven]:
     """All plans of a network, driven."""
     deck = network.read()
-    decks = {ZERO: deck}
-    indices: Dict[str, float] = {ZERO: index_of(deck), COORDINATED: 0}
+    decks = {BEFORE: deck}
+    indices: Dict[str, float] = {BEFORE: index_of(deck), COORDINATED: 0}
     for name, rows in zip((NEAR, BEST), two_of_a_climb(deck)):
         if rows.deck:
             decks[name], indices[name] = rows.deck, rows.index
     with tempfile.TemporaryDirectory() as folder:
-        runs = drive_all(decks, folder)
+        runs = drive_all(decks, folder, jobs)
     return {name: Driven(indices[name], runs[name]) for name in PLANS}
 
 
@@ -190,11 +232,11 @@ def percent(ratios: Sequence[float], ratio: float) -> List[str]:
 
 def rows_of(network: Network, plans: Dict[str, Driven]) -> List[str]:
     """The rows of a network in the first table."""
-    first, lines = plans[ZERO], []
+    first, lines = plans[BEFORE], []
     for name, plan in plans.items():
         index = f"{plan.index / 1e6:.2f}" if plan.index else "-"
-        off = percent(plan.ratios(first), plan.delay / first.delay) if name != ZERO else ["", ""]
-        lines.append(row([network.name, name, index, f"{plan.delay:.2f}", *off]))
+        off = percent(plan.ratios(first), plan.delay / first.delay) if name != BEFORE else ["", ""]
+        lines.append(row([network.name, network.greens, name, index, f"{plan.delay:.2f}", *off]))
     return lines
 
 
@@ -202,26 +244,43 @@ def last_of(network: Network, plans: Dict[str, Driven]) -> str:
     """The row of a network in the second table."""
     near, best = plans[NEAR], plans[BEST]
     ratios = best.ratios(near)
-    return row([network.name, f"{fullest(network):.2f}", f"{best.index / near.index:.3f}",
+    return row([network.name, network.greens, f"{fullest(network.read()):.2f}", f"{best.index / near.index:.3f}",
                 f"{best.delay / near.delay:.3f}", f"{min(ratios):.3f} to {max(ratios):.3f}"])
+
+
+def tables(found: Sequence[Tuple[Network, Dict[str, Driven]]]) -> List[str]:
+    """The lines of both tables."""
+    runs = [run for _, plans in found for plan in plans.values() for run in plan.runs]
+    return [
+        "Made by `python3 examples/sumo/worth.py > examples/sumo/worth.md`. Delay is SUMO's, in vehicle-hours an hour.",
+        "",
+        row(["network", "greens", "offsets", "the program's index, millions", "delay", "taken off, in 100",
+             "by seed"]),
+        row([":--", ":--", ":--", "--:", "--:", "--:", "--:"]),
+        *(line for network, plans in found for line in rows_of(network, plans)),
+        "", f"The last 5 in 100 of the index: {BEST} / {NEAR}.", "",
+        row(["network", "greens", "saturation of its fullest junction, by `equisat`", "the program's index", "delay",
+             "delay by seed"]),
+        row([":--", ":--", "--:", "--:", "--:", "--:"]),
+        *(last_of(network, plans) for network, plans in found),
+        "", f"{sumo_version()}, seeds {SEEDS[0]} to {SEEDS[-1]}; {sum(run.collisions for run in runs)} collisions and "
+        f"{sum(run.teleports for run in runs)} teleports in {len(runs)} runs; the best of {STARTS} starts."]
 
 
 def main(words: Sequence[str]) -> None:
     """Writes both tables."""
-    networks = [NETWORKS[int(word) - 1] for word in words] or NETWORKS
-    found = [(network, driven(network)) for network in networks]
-    print("Made by `python3 examples/sumo/worth.py > examples/sumo/worth.md`. Delay is SUMO's, in vehicle-hours an "
-          "hour.\n")
-    print(row(["network", "offsets", "the program's index, millions", "delay", "taken off, in 100", "by seed"]))
-    print(row([":--", ":--", "--:", "--:", "--:", "--:"]))
-    print("\n".join(line for network, plans in found for line in rows_of(network, plans)))
-    print(f"\nThe last 5 in 100 of the index: {BEST} / {NEAR}.\n")
-    print(row(["network", "saturation of its fullest junction", "the program's index", "delay", "delay by seed"]))
-    print(row([":--", "--:", "--:", "--:", "--:"]))
-    print("\n".join(last_of(network, plans) for network, plans in found))
-    runs = [run for _, plans in found for plan in plans.values() for run in plan.runs]
-    print(f"\n{sumo_version()}, seeds {SEEDS[0]} to {SEEDS[-1]}; {sum(run.collisions for run in runs)} collisions and "
-          f"{sum(run.teleports for run in runs)} teleports in {len(runs)} runs; the best of {STARTS} starts.")
+    parser = argparse.ArgumentParser(description="What offsets of a lower index are worth in SUMO.")
+    numbers = range(1, len(NETWORKS) + 1)
+    parser.add_argument("networks", nargs="*", type=int, metavar="NETWORK", help=f"1 to {len(NETWORKS)}, or all")
+    parser.add_argument("--jobs", type=int, default=2, help="how many runs are made at once (2)")
+    asked = parser.parse_args(words)
+    if not set(asked.networks) <= set(numbers):
+        parser.error(f"the networks are 1 to {len(NETWORKS)}")
+    found: List[Tuple[Network, Dict[str, Driven]]] = []
+    for number in asked.networks or numbers:
+        found.append((NETWORKS[number - 1], driven(NETWORKS[number - 1], asked.jobs)))
+        progress(f"{NETWORKS[number - 1].name}: done")
+    print("\n".join(tables(found)))
 
 
 if __name__ == "__main__":

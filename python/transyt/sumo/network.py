@@ -6,6 +6,7 @@ from typing import Any, Callable, Dict, List, Mapping, Tuple
 
 from ..deck import Deck
 from .lanes import Goal, ways
+from .merging import REGULATED, UNREGULATED, put_merging
 from .netfile import Request, read_net
 from .roads import LANE_WIDTH, LEAST_LENGTH, SPEED, Map, Road, apart, check_carried, draw_map, link_road
 from .tools import run_tool, write_xml
@@ -60,8 +61,7 @@ def write_map(drawn: Map, folder: str, prohibited: bool) -> None:
     giving = {drawn.roads[road].end for road in drawn.gives}
     write_xml(os.path.join(folder, "town.nod.xml"), "nodes", (
         ("node", {"id": name, "x": f"{x:.1f}", "y": f"{y:.1f}",
-                  "type": "traffic_light" if name in giving else
-                          "traffic_light_unregulated" if name in signals else "priority"})
+                  "type": REGULATED if name in giving else UNREGULATED if name in signals else "priority"})
         for name, (x, y) in drawn.places.items()))
     moved = beside(drawn)
     edges: List[Tuple[str, Mapping[str, Any]]] = []
@@ -93,7 +93,9 @@ def convert(drawn: Map, folder: str, prohibited: bool = True) -> "Net":
               "--connection-files", "town.con.xml", "--output-file", "town.net.xml", "--no-turnarounds", "true",
               "--junctions.limit-turn-speed", "-1", "--offset.disable-normalization", "true",
               "--xml-validation", "never"], folder)
-    return Net(os.path.join(folder, "town.net.xml"))
+    path = os.path.join(folder, "town.net.xml")
+    put_merging(path)
+    return Net(path)
 
 
 class Net:

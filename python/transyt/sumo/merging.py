@@ -1,0 +1,38 @@
+"""Ways that merge: at a junction without right of way, cars of two links that lead into one lane see each other.
+
+netconvert makes no requests at such a junction, and then each car sees the others when it is in that lane: too late.
+"""
+
+import xml.etree.ElementTree as ElementTree
+from typing import List, Sequence
+
+from .netfile import Connection, net_of, read_root
+from .tools import write_root
+
+UNREGULATED, REGULATED = "traffic_light_unregulated", "traffic_light"
+
+
+def put_merging(path: str) -> None:
+    """Puts into a network's file that ways into one lane meet; nobody waits for anybody, and ways that cross stay."""
+    root = read_root(path)
+    net = net_of(root)
+    for element in root.iterfind("junction"):
+        ways = net.ordered(net.junctions[element.attrib["id"]])
+        merging = [merging_with(way, ways) for way in ways]
+        if element.get("type") == UNREGULATED and any(merging):
+            element.set("type", REGULATED)
+            for place, foes in enumerate(merging):
+                ElementTree.SubElement(element, "request", index=str(place), response="0" * len(ways),
+                                       foes=bits_of(foes, len(ways)), cont="0")
+    write_root(root, path)
+
+
+def merging_with(way: Connection, ways: Sequence[Connection]) -> List[int]:
+    """The places of the ways of other roads that lead into the same lane."""
+    return [place for place, other in enumerate(ways) if other.start != way.start
+            and (other.end, other.to_lane) == (way.end, way.to_lane)]
+
+
+def bits_of(places: Sequence[int], count: int) -> str:
+    """A row of a request with ones at some places, of which the last is place 0."""
+    return "".join("1" if place in places else "0" for place in reversed(range(count)))
