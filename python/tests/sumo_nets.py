@@ -4,6 +4,7 @@ import os
 import shutil
 import subprocess
 import unittest
+from typing import Sequence
 
 TOOLS = ("netconvert", "netgenerate")
 needs_sumo = unittest.skipUnless(all(map(shutil.which, TOOLS)), "SUMO isn't installed: there is no netconvert")
@@ -40,7 +41,7 @@ NODES = """<nodes>
 ROUND = ("rw", "rs", "re", "rn")  # the way round, where traffic drives on the right
 
 
-def run(words, folder):
+def run(words: Sequence[str], folder: str) -> None:
     """Runs a program of SUMO."""
     home = {"SUMO_HOME": "/usr/share/sumo"} if os.path.isdir("/usr/share/sumo") else {}
     done = subprocess.run(words, cwd=folder, capture_output=True, text=True, env={**home, **os.environ})
@@ -48,7 +49,7 @@ def run(words, folder):
         raise AssertionError(f"{words[0]} failed: {done.stderr}")
 
 
-def write(folder, name, text):
+def write(folder: str, name: str, text: str) -> str:
     """Writes a file, and returns its name."""
     path = os.path.join(folder, name)
     with open(path, "w", encoding="utf-8") as file:
@@ -56,7 +57,7 @@ def write(folder, name, text):
     return path
 
 
-def grid(folder, *options):
+def grid(folder: str, *options: str) -> str:
     """A grid of three by three junctions with signals."""
     usual = {"--grid.number": "3", "--no-turnarounds": "true"}
     words = [word for name, value in usual.items() if name not in options for word in (name, value)]
@@ -65,7 +66,7 @@ def grid(folder, *options):
     return os.path.join(folder, "grid.net.xml")
 
 
-def roundabout(folder):
+def roundabout(folder: str) -> str:
     """Two junctions with signals, and a roundabout without between them, with a street to the north and the south."""
     ways = [("w", "A"), ("an", "A"), ("as", "A"), ("e", "B"), ("bn", "B"), ("bs", "B"), ("A", "rw"), ("B", "re"),
             ("n", "rn"), ("s", "rs")]
@@ -79,7 +80,7 @@ def roundabout(folder):
     return os.path.join(folder, "r.net.xml")
 
 
-def of_a_map(folder):
+def of_a_map(folder: str) -> str:
     """The network that netconvert makes of the map."""
     write(folder, "map.osm", OSM)
     run(["netconvert", "--osm-files", "map.osm", "-o", "map.net.xml", "--no-turnarounds", "true",

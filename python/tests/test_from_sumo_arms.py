@@ -1,15 +1,16 @@
 """Arms: the links that lanes make by their greens, and their turns."""
 
 import unittest
+from typing import List, Optional, Sequence, Tuple
 
 import support  # noqa: F401
 from test_from_sumo_stages import cars, logic
-from transyt.from_sumo.arms import Program, arm_of
+from transyt.from_sumo.arms import Arm, Program, arm_of
 from transyt.from_sumo.stages import stages_of
 from transyt.sumo.netfile import Connection, Edge, Lane
 
 
-def arm(states, *turns):
+def arm(states: Sequence[str], *turns: Tuple[int, str, Optional[int], str]) -> Tuple[Arm, List[str]]:
     """The arm of an edge at a program of three stages, and what is told.
 
     `states` has the greens of each place in the stages, `turns` of each connection the lane, the goal, the place or
@@ -22,14 +23,15 @@ def arm(states, *turns):
     lanes = tuple(Lane(f"e_{place}", place, 100, 14, True) for place in sorted({turn[0] for turn in turns}))
     connections = [Connection("e", goal, lane, 0, "", "J" if place is not None else "", -1 if place is None else place,
                               direction) for lane, goal, place, direction in turns]
-    told = []
+    told: List[str] = []
     made = arm_of(Edge("e", "", "", "", "", lanes), connections,
                   Program(program, stages, stages, {place: place for place in range(len(stages))}), told.append)
     return made, told
 
 
 class Arms(unittest.TestCase):
-    def links(self, made):
+    def links(self, made: Arm) -> List[Tuple[List[int], Tuple[int, ...], bool]]:
+        """Of each link its lanes, its stages, and whether it gives way."""
         return [([lane.place for lane in link.lanes], link.stages, link.is_minor) for link in made.links]
 
     def test_lanes_of_one_green_are_a_link(self) -> None:

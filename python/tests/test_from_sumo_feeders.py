@@ -1,6 +1,7 @@
 """At most eight feeders of an arm."""
 
 import unittest
+from typing import List
 
 import support  # noqa: F401
 from transyt.from_sumo.arms import Arm, Turn
@@ -8,7 +9,7 @@ from transyt.from_sumo.feeders import at_most_eight
 from transyt.sumo.netfile import Edge
 
 
-def arm(name, *turns):
+def arm(name: str, *turns: str) -> Arm:
     """An arm of an edge with turns, each with a link of its own."""
     edge = Edge(name, "", "", "", "", ())
     return Arm(edge, (), tuple(Turn(turn, "x", place, ()) for place, turn in enumerate(turns)))
@@ -21,13 +22,13 @@ class Feeders(unittest.TestCase):
                       for turn in one.turns}
 
     def test_eight_stay(self) -> None:
-        told = []
+        told: List[str] = []
         goals = {key: goal for key, goal in self.goals.items() if key[1] != "c"}
         self.assertEqual(at_most_eight(self.arms, goals, told.append), goals)
         self.assertEqual(told, [])
 
     def test_those_that_turn_back_are_left_first(self) -> None:
-        told = []
+        told: List[str] = []
         kept = at_most_eight(self.arms, self.goals, told.append)
         self.assertEqual(set(self.goals) - set(kept), {(1, "a", "t"), (1, "b", "t")})
         self.assertEqual(told, ["edge goal is fed by 10 links, and 8 are the most: left are the ways from a, b"])

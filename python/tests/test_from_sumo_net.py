@@ -8,6 +8,7 @@ import random
 import shutil
 import tempfile
 import unittest
+from typing import Dict, List, Sequence, Tuple, Union
 
 import support  # noqa: F401
 from sumo_nets import grid, needs_sumo, of_a_map, roundabout, write
@@ -21,6 +22,10 @@ from transyt.sheets.faults import Judge
 from transyt.sumo.netfile import read_net
 
 
+Tables = Dict[str, List[Dict[str, str]]]
+Turn = Tuple[int, Tuple[str, str]]  # when its interval begins, and the edges that it joins
+
+
 @needs_sumo
 class FromSumo(unittest.TestCase):
     """Tests that make a network and call the word."""
@@ -30,7 +35,7 @@ class FromSumo(unittest.TestCase):
         self.addCleanup(folder.cleanup)
         self.folder = folder.name
 
-    def made(self, net, *words, status=0):
+    def made(self, net: str, *words: str, status: int = 0) -> Tables:
         """The tables that `from-sumo` makes of a network, each with its rows by header; and what is told."""
         sheets, said = os.path.join(self.folder, "sheets"), io.StringIO()
         shutil.rmtree(sheets, ignore_errors=True)
@@ -41,13 +46,13 @@ class FromSumo(unittest.TestCase):
             self.assertFalse(os.path.exists(sheets))
             return {}
         source = Source(sheets)
-        tables = {}
+        tables: Tables = {}
         for name in ("frame", "junctions", "stages", "links", "movements", "ways", "counts", "gives"):
             (_, head), *rows = source.rows(name, Judge())
             tables[name] = [dict(zip(head, row)) for _, row in rows]
         return tables
 
-    def edited(self, net, *pairs):
+    def edited(self, net: str, *pairs: Tuple[str, str]) -> str:
         """A network with texts of it replaced."""
         with open(net, encoding="utf-8") as file:
             text = file.read()
@@ -56,7 +61,7 @@ class FromSumo(unittest.TestCase):
             text = text.replace(old, new)
         return write(self.folder, "edited.net.xml", text)
 
-    def told(self, *words):
+    def told(self, *words: str) -> bool:
         """Whether a line has all these words."""
         return any(all(word in line for word in words) for line in self.said)
 
@@ -231,7 +236,8 @@ class Ways(FromSumo):
 
 
 class Counts(FromSumo):
-    def turns(self, net, intervals=((28800, 29700), (29700, 32400))):
+    def turns(self, net: str, intervals: Sequence[Tuple[int, int]] = ((28800, 29700), (29700, 32400))
+              ) -> Tuple[str, Dict[Turn, int]]:
         """A file of counts for all turns at signals of a network, and the vehicles of each."""
         draw = random.Random(11)
         keys = sorted({(one.start, one.end) for one in read_net(net).connections
@@ -287,7 +293,8 @@ class Counts(FromSumo):
 class Refused(unittest.TestCase):
     """Files that are no networks; SUMO isn't needed."""
 
-    def refused(self, text, words, name="x.net.xml"):
+    def refused(self, text: Union[str, bytes], words: str, name: str = "x.net.xml") -> None:
+        """Has a file refused with these words, and with its name."""
         with tempfile.TemporaryDirectory() as folder:
             path = os.path.join(folder, name)
             with open(path, "wb") as file:

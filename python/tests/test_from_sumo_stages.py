@@ -3,6 +3,7 @@
 import random
 import unittest
 from fractions import Fraction
+from typing import Any, FrozenSet, List, Sequence, Tuple
 
 import support  # noqa: F401
 from transyt.faults import Fault
@@ -12,19 +13,19 @@ from transyt.sheets.values import seconds_text
 from transyt.sumo.netfile import Logic, Phase
 
 
-def logic(*phases, offset=0.0, kind="static", name="J"):
+def logic(*phases: Sequence[Any], offset: float = 0.0, kind: str = "static", name: str = "J") -> Logic:
     """A program of (seconds, state) or (seconds, state, name, least)."""
     made = [Phase(float(seconds), state, rest[1] if rest[1:] else None, "", rest[0] if rest else "")
             for seconds, state, *rest in phases]
     return Logic(name, kind, "0", offset, tuple(made))
 
 
-def cars(program):
+def cars(program: Logic) -> FrozenSet[int]:
     """All places of a program."""
     return frozenset(range(len(program.phases[0].state)))
 
 
-def told(program):
+def told(program: Logic) -> List[Tuple[float, float, float, List[int]]]:
     """Of each stage the beginning, intergreen and green in seconds, and the green places."""
     return [(float(stage.begin), float(stage.intergreen), float(stage.green), sorted(stage.places))
             for stage in stages_of(program, cars(program))]

@@ -3,6 +3,7 @@
 import tempfile
 import unittest
 from fractions import Fraction
+from typing import Dict, List, Optional, Sequence, Tuple
 
 import support  # noqa: F401
 from sumo_nets import write
@@ -11,44 +12,49 @@ from transyt.from_sumo.tables import tables_of
 from transyt.from_sumo.town import town_of
 from transyt.sumo.netfile import read_net
 
+Made = Tuple[Dict[str, List[Dict[str, str]]], List[str]]  # of each table its rows by header; what is told
 
-def edge(name, start, end, lanes=1, length=100.0, speed=10.0, street=""):
+
+def edge(name: str, start: str, end: str, lanes: int = 1, length: float = 100.0, speed: float = 10.0,
+         street: str = "") -> str:
     """An edge with lanes."""
     rows = "".join(f'<lane id="{name}_{place}" index="{place}" speed="{speed}" length="{length}" shape="0,0 1,0"/>'
                    for place in range(lanes))
     return f'<edge id="{name}" from="{start}" to="{end}" name="{street}">{rows}</edge>'
 
 
-def inside(name, length, speed):
+def inside(name: str, length: float, speed: float) -> str:
     """An edge within a junction."""
     return (f'<edge id="{name}" function="internal"><lane id="{name}_0" index="0" speed="{speed}" length="{length}" '
             'shape="0,0 1,0"/></edge>')
 
 
-def turn(start, goal, lane, place, direction="s", via="", to_lane=0):
+def turn(start: str, goal: str, lane: int, place: Optional[int], direction: str = "s", via: str = "",
+         to_lane: int = 0) -> str:
     """A connection."""
     signal = "" if place is None else f' tl="J" linkIndex="{place}"'
     return (f'<connection from="{start}" to="{goal}" fromLane="{lane}" toLane="{to_lane}"{signal} via="{via}" '
             f'dir="{direction}"/>')
 
 
-def phases(*states, name="J"):
+def phases(*states: str, name: str = "J") -> str:
     """A program of 30 s of each state, with 3 s of yellow after it."""
     rows = "".join(f'<phase duration="30" state="{state}"/><phase duration="3" '
                    f'state="{state.replace("G", "y").replace("g", "y")}"/>' for state in states)
     return f'<tlLogic id="{name}" type="static" programID="0" offset="0">{rows}</tlLogic>'
 
 
-def junction(name, incoming, *requests, kind="traffic_light", at=(0, 0)):
+def junction(name: str, incoming: str, *requests: str, kind: str = "traffic_light",
+             at: Tuple[int, int] = (0, 0)) -> str:
     """A junction with the foes of each connection, as bits."""
     rows = "".join(f'<request index="{place}" response="{foes}" foes="{foes}" cont="0"/>'
                    for place, foes in enumerate(requests))
     return f'<junction id="{name}" type="{kind}" x="{at[0]}" y="{at[1]}" incLanes="{incoming}">{rows}</junction>'
 
 
-def tables(*parts, intervals=None):
+def tables(*parts: str, intervals: Optional[Sequence[Interval]] = None) -> Made:
     """The tables of a network's parts, each as rows by header, and what is told."""
-    told = []
+    told: List[str] = []
     with tempfile.TemporaryDirectory() as folder:
         net = read_net(write(folder, "hand.net.xml", f"<net>{''.join(parts)}</net>"))
         town = town_of(net, None, None, told.append)
@@ -59,7 +65,8 @@ def tables(*parts, intervals=None):
 class Gives(unittest.TestCase):
     """Four arms: a turns through the gaps of b, which has to look out as well, and of c, which goes first."""
 
-    def made(self, states, foes="0110"):
+    def made(self, states: Sequence[str], foes: str = "0110") -> Made:
+        """The tables of the four arms at a program of these states, with the foes of a."""
         edges = [edge(name, name, "J") for name in "abcd"] + [edge("x", "J", "x")]
         turns = [turn(name, "x", 0, place) for place, name in enumerate("abcd")]
         return tables(*edges, phases(*states), junction("J", "a_0 b_0 c_0 d_0", foes, "0000", "0000", "0000"), *turns)
@@ -106,7 +113,7 @@ class Links(unittest.TestCase):
 
 
 class Ways(unittest.TestCase):
-    def made(self, middle=""):
+    def made(self, middle: str = "") -> Made:
         """Two junctions with signals and one between them: 20 m and 100 m, 50 m at 5 m/s within it, and 200 m."""
         far = [edge("c", "c", "K"), edge("y", "K", "y"), edge("m", "J", "M"), edge("n", "M", "K", length=200.0),
                inside(":M_0", 50.0, 5.0), inside(":J_0", 20.0, 10.0)]

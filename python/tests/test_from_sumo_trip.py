@@ -9,12 +9,13 @@ import unittest
 import unittest.mock
 from dataclasses import replace
 from fractions import Fraction
+from typing import Dict, List, Tuple
 
 import support
 from sumo_nets import needs_sumo, run
 from support import PROGRAM, needs_program
 from transyt.__main__ import main
-from transyt.deck import read_deck
+from transyt.deck import Deck, read_deck
 from transyt.from_sumo.tables import tables_of
 from transyt.from_sumo.town import town_of
 from transyt.sumo.drive import put_signals
@@ -22,6 +23,9 @@ from transyt.sumo.giving import as_drawn
 from transyt.sumo.netfile import read_net, read_root
 from transyt.sumo.network import build
 from transyt.sumo.roads import mean_cruise
+
+Tables = Dict[str, List[Dict[str, str]]]
+Times = Dict[int, List[Tuple[Fraction, Fraction, Fraction]]]  # of each node AT, intergreen and green of its stages
 
 # Two stages of which the second has all links of the first: the intergreen between them ends nothing.
 THREE_STAGES = """FORM 2
@@ -43,7 +47,7 @@ END
 """
 
 
-def another_plan(deck, draw):
+def another_plan(deck: Deck, draw: random.Random) -> Deck:
     """The deck with each node's clock turned, and its stages as long as before or longer by what another gives."""
     steps = deck.frame.step_count
     nodes = []
@@ -60,7 +64,7 @@ def another_plan(deck, draw):
     return replace(deck, nodes=tuple(nodes))
 
 
-def times_of(deck):
+def times_of(deck: Deck) -> Times:
     """Of each node AT, intergreen and green of its stages, in seconds."""
     frame = deck.frame
     step = Fraction(frame.cycle, frame.step_count)
@@ -71,9 +75,9 @@ def times_of(deck):
 
 @needs_sumo
 class RoundTrip(unittest.TestCase):
-    def back(self, deck, offset=0):
+    def back(self, deck: Deck, offset: int = 0) -> Tuple[Tables, List[str]]:
         """The tables of a deck's town, written as look does and read back, with what is told."""
-        told = []
+        told: List[str] = []
         with tempfile.TemporaryDirectory() as folder:
             net, path = build(deck, folder), os.path.join(folder, "town.net.xml")
             put_signals(deck, net, path)
@@ -88,18 +92,18 @@ class RoundTrip(unittest.TestCase):
                   for name, rows in tables_of(town, "town", None, told.append).items()}
         return tables, told
 
-    def times(self, tables, cycle):
+    def times(self, tables: Tables, cycle: int) -> Times:
         """As times_of, of tables."""
         node = {row["junction"]: int(row["name"][len("node"):]) for row in tables["junctions"]}
         offset = {row["junction"]: Fraction(row["offset"]) for row in tables["junctions"]}
-        found = {}
+        found: Dict[int, List[Tuple[Fraction, Fraction]]] = {}
         for row in tables["stages"]:
             found.setdefault(node[row["junction"]], []).append(
                 ((offset[row["junction"]] + Fraction(row["change"])) % cycle, Fraction(row["intergreen"])))
         return {number: [(at, intergreen, (stages[place % len(stages)][0] - at) % cycle - intergreen)
                          for place, (at, intergreen) in enumerate(stages, 1)] for number, stages in found.items()}
 
-    def compare(self, deck, offset=0):
+    def compare(self, deck: Deck, offset: int = 0) -> Tables:
         """Compares a deck of steps of whole seconds with itself read back."""
         tables, _ = self.back(deck, offset)
         cycle = deck.frame.cycle

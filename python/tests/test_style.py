@@ -17,9 +17,9 @@ from support import HERE, ROOT
 
 PACKAGE = os.path.dirname(HERE)
 MOST_LETTERS, MOST_LINES, MOST_OF_A_FUNCTION = 120, 400, 40
-FILES = sorted(path for pattern in ("python/transyt/**/*.py", "python/tests/*.py", "docs/*.py", ".ci/*.py")
-               for path in glob.glob(os.path.join(ROOT, pattern), recursive=True)
-               if not re.search(r"tests/\w*sumo\w*\.py$", path))
+FILES = sorted(path for pattern in ("python/transyt/**/*.py", "python/tests/*.py", "docs/*.py", ".ci/*.py",
+                                    "examples/sumo/*.py")
+               for path in glob.glob(os.path.join(ROOT, pattern), recursive=True))
 
 
 def functions_of(tree: ast.Module) -> Iterator[ast.FunctionDef]:
@@ -59,7 +59,7 @@ def faults_of(path: str) -> Iterable[Tuple[int, str]]:
 
 
 class Style(unittest.TestCase):
-    """Every file of the package, its tests, docs and .ci (the tests of SUMO apart, whose helpers have no hints yet)."""
+    """Every file of the package, its tests, docs, .ci and examples/sumo."""
 
     def test_each_file(self) -> None:
         """Lengths, docstrings, hints, imports."""

@@ -4,6 +4,7 @@ import functools
 import os
 import tempfile
 import unittest
+from typing import List, Sequence
 
 import support  # noqa: F401
 from transyt.deck import read_deck
@@ -96,9 +97,9 @@ class Calibration(unittest.TestCase):
         self.assertEqual(lane_count(deck, deck.link(1)), 1)
 
     def test_headway_lies_between_two_that_were_tried(self) -> None:
-        tried = []
+        tried: List[float] = []
 
-        def cars(headway):
+        def cars(headway: float) -> float:
             tried.append(headway)
             return 30 - 5 * headway
 
@@ -114,7 +115,8 @@ class Calibration(unittest.TestCase):
 
 
 class Tables(unittest.TestCase):
-    def plan(self, name, delay, driven):
+    def plan(self, name: str, delay: float, driven: Sequence[float]) -> Plan:
+        """A plan with a delay of the program, parted over its links, and those of SUMO by seed."""
         deck = read_deck(DECK)
         figures = {}
         for number, share in ((11, 0.5), (12, 0.25), (13, 0.25)):

@@ -4,6 +4,7 @@ import os
 import shutil
 import tempfile
 import unittest
+from typing import List, Set, Tuple
 
 import support  # noqa: F401
 from transyt.deck import read_deck
@@ -38,9 +39,9 @@ END
 """
 
 
-def told_of(deck):
+def told_of(deck: str) -> Tuple[Set[int], List[str]]:
     """The rules of a deck that are carried, and what is told."""
-    said = []
+    said: List[str] = []
     carried = as_drawn(read_deck(deck), said.append)
     return {link.number for link in carried.links if link.gives_way}, said
 

@@ -1,6 +1,7 @@
 """Greens by the rules of the model, and signals laid out for SUMO."""
 
 import unittest
+from typing import List, Sequence
 
 import support
 from transyt.deck import read_deck
@@ -24,7 +25,7 @@ END
 """
 
 
-def steps_of(flags):
+def steps_of(flags: Sequence[bool]) -> List[int]:
     """The numbers of the steps that are set."""
     return [step for step, flag in enumerate(flags) if flag]
 
@@ -34,7 +35,8 @@ class ShownSteps(unittest.TestCase):
     def setUp(self) -> None:
         self.deck = read_deck(THREE_STAGES)
 
-    def shown(self, number):
+    def shown(self, number: int) -> List[int]:
+        """The steps at which a link is shown green."""
         return steps_of(shown_steps(self.deck, self.deck.link(number)))
 
     def test_intergreen_comes_first(self) -> None:

@@ -5,6 +5,7 @@ import random
 import shutil
 import tempfile
 import unittest
+from typing import Sequence, Tuple
 
 import support  # noqa: F401
 from transyt.deck import read_deck
@@ -14,6 +15,8 @@ from transyt.sumo.netfile import read_root
 from transyt.sumo.roads import Map, Road
 
 needs_sumo = unittest.skipUnless(shutil.which("netconvert"), "SUMO isn't installed: there is no netconvert")
+
+Point = Tuple[float, ...]
 
 # The road of two lanes to the east goes on in two lanes, and into a pocket; a part turns off, and a part leaves.
 POCKET = """FORM 2
@@ -114,12 +117,12 @@ class FromTheRight(unittest.TestCase):
                          ["to2", "to3", "to3", "to1", "to1", "to0", "to0", "back"])
 
 
-def crossing(one, other):
+def crossing(one: Sequence[Point], other: Sequence[Point]) -> bool:
     """Whether two lines of points cross within."""
-    def side(a, b, c):
+    def side(a: Point, b: Point, c: Point) -> float:
         return (b[0] - a[0]) * (c[1] - a[1]) - (b[1] - a[1]) * (c[0] - a[0])
 
-    def cross(a, b, c, d):
+    def cross(a: Point, b: Point, c: Point, d: Point) -> bool:
         return side(a, b, c) * side(a, b, d) < -1e-3 and side(c, d, a) * side(c, d, b) < -1e-3
 
     return any(cross(*first, *second) for first in zip(one, one[1:]) for second in zip(other, other[1:]))

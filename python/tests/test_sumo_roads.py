@@ -28,7 +28,8 @@ END
 
 
 class CheckCarried(unittest.TestCase):
-    def refused(self, old, new, sentence):
+    def refused(self, old: str, new: str, sentence: str) -> None:
+        """Has the deck refused with a text of it replaced."""
         with self.assertRaisesRegex(Fault, sentence):
             check_carried(read_deck(DECK.replace(old, new)))
 
