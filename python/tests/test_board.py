@@ -13,10 +13,12 @@ from unittest import mock
 
 import support
 from support import PROGRAM, needs_program, wait_until
-from transyt.board.state import Board, Stale, Wanted
-from transyt.deck import read_deck
+from transyt.board.state import Board, Stale, Wanted, counted, steps_of
+from transyt.board.view import changed
+from transyt.deck import Frame, read_deck
 from transyt.edits import Edit
 from transyt.faults import Ended, Fault
+from transyt.pictures.svg import seconds
 from transyt.session import Session
 
 TOWN = read_deck(support.example("arterial.deck"))
@@ -26,6 +28,38 @@ def index_of(text: str) -> int:
     """The index of a deck, asked of the program apart from the board."""
     with Session(text, 1, PROGRAM) as town:
         return town.index()
+
+
+class Shown(unittest.TestCase):
+    """How times and differences are told; without the program."""
+
+    def test_a_time_as_it_is_shown_is_its_step(self) -> None:
+        """Steps of 5/3 s and of 7/6 s are shown to a thousandth, and come back as what they are."""
+        for frame in (Frame(100, 60, 1, 60, 0), Frame(70, 60, 1, 60, 0), Frame(90, 45, 1, 60, 0)):
+            for steps in range(frame.step_count):
+                self.assertEqual(steps_of(frame, Fraction(seconds(steps * frame.step_seconds))), steps)
+
+    def test_the_two_nearest_are_times_that_can_be(self) -> None:
+        """After the last step comes 0, and not the cycle."""
+        for told, sentence in (("89", "the nearest are 88 and 0 s"), ("88.5", "the nearest are 88 and 0 s"),
+                               ("3", "the nearest are 2 and 4 s")):
+            with self.assertRaisesRegex(Fault, sentence):
+                steps_of(Frame(90, 45, 1, 60, 0), Fraction(told))
+
+    def test_great_times_are_told_as_they_were_typed(self) -> None:
+        """Without an exponent."""
+        with self.assertRaisesRegex(Fault, "^99999999999 s is not within 0 to 88 s$"):
+            steps_of(Frame(90, 45, 1, 60, 0), Fraction(99999999999))
+
+    def test_a_difference_that_is_shown_as_nought_has_no_sign(self) -> None:
+        """It is left empty, as where there is none."""
+        self.assertEqual([changed(one, 1_000_000, 1) for one in (0, 49_000, -49_000, 51_000, -51_000)],
+                         ["", "", "", "+0.1", "\u22120.1"])
+        self.assertEqual([changed(one, 1, 3) for one in (0, 7, -7)], ["", "+7", "\u22127"])
+
+    def test_one_of_a_thing(self) -> None:
+        """A climb of one step."""
+        self.assertEqual([counted(count, "step") for count in (0, 1, 2)], ["0 steps", "1 step", "2 steps"])
 
 
 @needs_program
@@ -79,6 +113,25 @@ class Changes(unittest.TestCase):
             self.board.edit(0, Wanted(4, 0, Fraction(3)))
         self.assertIn("the nearest are 2 and 4 s", str(caught.exception))
         self.assertEqual(self.board.version, 0)
+
+    def test_the_fullest_link_is_told_with_its_saturation(self) -> None:
+        """As its row has it."""
+        view = self.board.view()
+        row = next(link for link in view["links"] if link["number"] == view["totals"][3]["raw"])
+        self.assertEqual(view["totals"][3]["shown"], f"link {row['number']}, {row['saturation']} %")
+
+    def test_a_junction_that_is_not_there(self) -> None:
+        """Told by the word of the page."""
+        with self.assertRaisesRegex(Fault, "^there is no junction 99$"):
+            self.board.edit(0, Wanted(99, 0, Fraction(2)))
+
+    def test_a_board_that_can_not_be_made_leaves_no_child(self) -> None:
+        """Its road names a link that the deck hasn't."""
+        with mock.patch.object(Session, "close", autospec=True) as close:
+            with self.assertRaises(Fault):
+                Board(TOWN, 1, PROGRAM, [[11, 99]])
+        close.assert_called_once_with(mock.ANY, at_once=True)
+        Session.close(close.call_args.args[0], at_once=True)
 
     def test_a_refused_edit_is_a_sentence(self) -> None:
         """A stage that begins where it has no room; nothing has changed."""

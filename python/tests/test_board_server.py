@@ -3,6 +3,7 @@
 import http.client
 import json
 import os
+import re
 import signal
 import socket
 import subprocess
@@ -16,11 +17,37 @@ from unittest import mock
 import support
 from support import PROGRAM, ROOT, needs_program, wait_until
 from transyt.board import server as serving
-from transyt.board.server import serve
+from transyt.board.server import serve, wanted_of
 from transyt.board.state import Board
 from transyt.deck import read_deck
+from transyt.faults import Fault
 
 MARKED = read_deck(support.THREE.replace("Market Street", "<script>alert(1)</script> & \"quotes\" \u05d0\u05d1"))
+
+
+class Typed(unittest.TestCase):
+    """What is typed into a field; without the program."""
+
+    def test_what_is_no_time_is_told_with_an_example(self) -> None:
+        """An empty field too; what is long is cut, and marked so."""
+        for typed, sentence in (("", "an empty field is no time in seconds, such as 12 or 12.5"),
+                                (" ", "an empty field is no time"), ("12,5", "12,5 is no time"),
+                                ("-2", "-2 is no time"), ("x" * 40, "x" * 19 + "… is no time")):
+            with self.assertRaisesRegex(Fault, f"^{sentence}"):
+                wanted_of({"node": 1, "stage": 0, "seconds": typed})
+        for odd in (True, "1", None, 1.0):
+            with self.assertRaisesRegex(Fault, "names no junction"):
+                wanted_of({"node": odd, "stage": 0, "seconds": "2"})
+
+    def test_the_page_has_what_its_scripts_name(self) -> None:
+        """Each element that they look for by its id."""
+        def text(name: str) -> str:
+            with open(os.path.join(serving.STATIC, name), encoding="utf-8") as file:
+                return file.read()
+
+        wanted = set(re.findall(r'byId\("([a-z-]+)"\)', text("board.js") + text("hand.js")))
+        self.assertGreater(len(wanted), 10)
+        self.assertLessEqual(wanted, set(re.findall(r' id="([a-z-]+)"', text("board.html"))))
 
 
 @needs_program

@@ -17,6 +17,7 @@ from socketserver import ThreadingMixIn
 from typing import Any, Callable, Dict, Optional, Tuple
 
 from ..faults import Fault
+from ..pictures.svg import shortened
 from .state import Board, Stale, Wanted
 
 STATIC = os.path.join(os.path.dirname(os.path.realpath(__file__)), "static")
@@ -221,11 +222,12 @@ class Handler(BaseHTTPRequestHandler):
 def wanted_of(asked: Dict[str, Any]) -> Wanted:
     """What a hand asks for, out of a request."""
     node, stage, seconds = asked.get("node"), asked.get("stage"), str(asked.get("seconds", "")).strip()
-    if not isinstance(node, int) or not isinstance(stage, int):
+    if type(node) is not int or type(stage) is not int:
         raise Fault("the request names no junction and no stage")
     whole, _, part = seconds.partition(".")
     if not (whole + part).isascii() or not whole.isdecimal() or (part and not part.isdecimal()) or len(seconds) > 12:
-        raise Fault(f"{seconds[:20]} is no time in seconds")
+        typed = shortened(seconds, 20) if seconds else "an empty field"
+        raise Fault(f"{typed} is no time in seconds, such as 12 or 12.5")
     return Wanted(node, stage, Fraction(seconds.rstrip(".")))
 
 

@@ -10,14 +10,16 @@ from fractions import Fraction
 from types import TracebackType
 from typing import Dict, List, Optional, Sequence, Tuple, Type
 
-from ..deck import Deck
+from ..deck import Deck, Frame
 from ..edits import Edit, after, inverse
 from ..faults import Ended, Fault, Refused
 from ..pictures import sensitivity
+from ..pictures.svg import seconds as shown
 from ..session import Climb, Session
 from .view import Shown, view_of
 
 Change = List[Tuple[Edit, Edit]]  # edits in their order, each with its inverse
+HALF_SHOWN = Fraction(1, 2000)  # seconds: times are shown to a thousandth
 STARTED = "the program had ended: it was started again, and the plan is as it was before"
 STOPPED = "stopped: the program was started again, and the plan is as it was before"
 
@@ -36,7 +38,7 @@ class Wanted:
 
     def refused(self) -> str:
         """What can't be, where the program refuses it."""
-        seconds = f"{float(self.seconds):g} s"
+        seconds = f"{shown(float(self.seconds))} s"
         return f"stage {self.stage} of junction {self.node} can't begin at {seconds}" if self.stage else \
             f"the offset of junction {self.node} can't be {seconds}"
 
@@ -48,16 +50,19 @@ class Board:
         self._workers, self._program, self._routes = workers, program, routes
         self._lock = threading.Lock()
         self._session = Session(deck, workers, program)
-        self._given = self._session.deck()
-        self._given_figures = self._session.figures()
         self._undo: List[Change] = []
         self._redo: List[Change] = []
         self._climb: Optional[Climb] = None
         self._climber: Optional[threading.Thread] = None
         self._is_stopped = False  # whether a long answer, and not a climb, was stopped
         self.version = 0
-        self._kept = self._given
-        self._view = self._made("")
+        try:
+            self._given = self._kept = self._session.deck()
+            self._given_figures = self._session.figures()
+            self._view = self._made("")
+        except BaseException:
+            self._session.close(at_once=True)
+            raise
 
     def view(self) -> Shown:
         """The view as it was made last, with how far a climb is."""
@@ -191,8 +196,9 @@ class Board:
         try:
             for _ in climb:
                 pass
-            message = f"{'LOCAL' if climb.local else 'BUDGET'} after {climb.looked} looks, {len(climb.steps)} steps" \
-                if climb.end else f"stopped after {len(climb.steps)} steps"
+            steps = counted(len(climb.steps), "step")
+            message = f"{'LOCAL' if climb.local else 'BUDGET'} after {counted(climb.looked, 'look')}, {steps}" \
+                if climb.end else f"stopped after {steps}"
         except Fault as fault:
             message = f"the climb ended: {fault}"
         with self._lock:
@@ -225,6 +231,11 @@ class Board:
             self._undo.append(change)
             self._redo.clear()
         return message, lines_of(climb)
+
+
+def counted(count: int, what: str) -> str:
+    """A number of things, one of them too."""
+    return f"{count} {what}{'' if count == 1 else 's'}"
 
 
 def lines_of(climb: Climb) -> List[str]:
@@ -271,17 +282,28 @@ def said_of(refused: Refused) -> str:
 
 
 def edit_of(deck: Deck, wanted: Wanted) -> Edit:
-    """The edit that a hand asks for; a time that isn't whole steps is refused with the two nearest."""
-    node, step = deck.node(wanted.node), Fraction(deck.frame.cycle, deck.frame.step_count)
-    if not 0 <= wanted.seconds < deck.frame.cycle:
-        raise Fault(f"{float(wanted.seconds):g} s is not within 0 to {float(deck.frame.cycle - step):g} s")
-    steps = wanted.seconds / step
-    if steps.denominator != 1:
-        below = int(steps)
-        raise Fault(f"{float(wanted.seconds):g} s is no whole number of steps of {float(step):g} s; the nearest are "
-                    f"{float(below * step):g} and {float((below + 1) * step):g} s")
+    """The edit that a hand asks for."""
+    if wanted.node not in deck.node_by_number:
+        raise Fault(f"there is no junction {wanted.node}")
+    node, steps = deck.node(wanted.node), steps_of(deck.frame, wanted.seconds)
     if wanted.stage == 0:
-        return Edit("OFFSET", (node.number, int(steps)))
+        return Edit("OFFSET", (node.number, steps))
     if not 1 <= wanted.stage <= len(node.stages):
         raise Fault(f"junction {node.number} has no stage {wanted.stage}")
-    return Edit("CHANGE", (node.number, wanted.stage, (int(steps) - node.offset) % deck.frame.step_count))
+    return Edit("CHANGE", (node.number, wanted.stage, (steps - node.offset) % deck.frame.step_count))
+
+
+def steps_of(frame: Frame, seconds: Fraction) -> int:
+    """The step at a time, to the thousandth that the page shows; another one is refused with the two nearest."""
+    step = Fraction(frame.cycle, frame.step_count)
+    if not 0 <= seconds < frame.cycle:
+        raise Fault(f"{shown(float(seconds))} s is not within 0 to {shown(float(frame.cycle - step))} s")
+    below = int(seconds / step)
+    nearest = [below, (below + 1) % frame.step_count]
+    if seconds - below * step <= HALF_SHOWN:
+        return nearest[0]
+    if (below + 1) * step - seconds <= HALF_SHOWN:
+        return nearest[1]
+    low, high = (shown(float(steps * step)) for steps in nearest)
+    raise Fault(f"{shown(float(seconds))} s is no whole number of steps of {shown(float(step))} s; the nearest are "
+                f"{low} and {high} s")

@@ -34,16 +34,24 @@ def totals_of(figures: Figures, before: Figures) -> List[Shown]:
         scale = 1 if word == "INDEX" else 1_000_000
         shown = str(now) if scale == 1 else f"{now / scale:.3f}"
         rows.append({"name": name, "raw": now, "shown": shown, "change": changed(now - then, scale, 3)})
-    rows.append({"name": "fullest link", "raw": figures.worst, "shown": str(figures.worst), "change": ""})
+    rows.append({"name": "fullest link", "raw": figures.worst, "shown": fullest(figures), "change": ""})
     return rows
 
 
+def fullest(figures: Figures) -> str:
+    """The fullest link with its degree of saturation."""
+    return f"link {figures.worst}, {saturation_of(figures.link(figures.worst))}" if figures.worst else "none"
+
+
+def saturation_of(link: LinkFigures) -> str:
+    """A link's degree of saturation, as a total has it."""
+    return f"{link.raw['SATURATION'] / 10:.1f} %" if link.has_capacity else "no green"
+
+
 def changed(difference: int, scale: int, digits: int) -> str:
-    """A difference with its sign; empty where there is none."""
-    if not difference:
-        return ""
+    """A difference with its sign; empty where it is none as it is shown."""
     size = str(abs(difference)) if scale == 1 else f"{abs(difference) / scale:.{digits}f}"
-    return ("+" if difference > 0 else "−") + size
+    return ("+" if difference > 0 else "−") + size if float(size) else ""
 
 
 def nodes_of(deck: Deck, timing: Timing, step: float) -> List[Shown]:

@@ -40,7 +40,8 @@ def run(args: argparse.Namespace) -> int:
         server, _ = serve(board)
         tell(f"{server.origin}/#{server.secret}")
         if args.open:
-            webbrowser.open(f"{server.origin}/#ticket={server.ticket.text}")
+            if not webbrowser.open(f"{server.origin}/#ticket={server.ticket.text}"):
+                tell("no browser could be opened: open the address above in one")
         while not ended.wait(0.2):
             pass
     finally:

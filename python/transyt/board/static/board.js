@@ -77,6 +77,7 @@ function show(view) {
   showTook(view);
   showTables(view);
   for (const id of ["road", "signals", "saturation"]) picture(id, view[id]);
+  byId("road-part").hidden = !view.road;
   gripSignals();
   gripRoad();
   if (focus) { const again = document.querySelector(`[data-key="${focus}"]`); if (again) again.focus({ preventScroll: true }); }
@@ -84,6 +85,8 @@ function show(view) {
 }
 
 function showButtons(view) {
+  const why = view.has_climb ? "" : "The deck has no STEPS card, which says how to climb.";
+  for (const id of ["climb", "certificate"]) byId(id).title = why;
   byId("climb").disabled = view.climbing || !view.has_climb;
   byId("stop").disabled = !view.climbing;
   const can = { undo: view.can_undo, redo: view.can_redo, again: view.can_undo, certificate: view.has_climb };
@@ -187,7 +190,8 @@ async function poll() {
       const { body } = await ask("/took");
       if (!body.climbing) break;
       showTook(body);
-      tell(`${body.took.length} steps: ${body.took[body.took.length - 1] || ""}`, false);
+      const count = body.took.length;
+      tell(`${count} ${count === 1 ? "step" : "steps"}${count ? `: ${body.took[count - 1]}` : ""}`, false);
     }
     const { body } = await ask("/state");
     polling = false;
@@ -209,10 +213,14 @@ async function stop() {
 }
 
 async function download() {
-  const answer = await fetch("/deck", { headers: { "X-Board": secret } });
-  if (answer.status !== 200) { tell("The board doesn't answer: it may have ended.", true); return; }
+  let text = null;
+  try {
+    const answer = await fetch("/deck", { headers: { "X-Board": secret } });
+    if (answer.status === 200) text = await answer.text();
+  } catch (error) { /* told below */ }
+  if (text === null) { tell("The board doesn't answer: it may have ended.", true); return; }
   const link = document.createElement("a");
-  link.href = URL.createObjectURL(new Blob([await answer.text()], { type: "text/plain" }));
+  link.href = URL.createObjectURL(new Blob([text], { type: "text/plain" }));
   link.download = "plan.deck";
   link.click();
   setTimeout(() => URL.revokeObjectURL(link.href), 1000);

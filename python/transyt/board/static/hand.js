@@ -1,6 +1,7 @@
 "use strict";
 // The hand on the pictures: handles that are dragged, or moved by keyboard, and how a picture follows.
 
+const CLIMBING = "A climb is on its way: stop it first, or wait for its end.";
 let drag = null;
 
 // A handle has what is moved (node, and stage, 0 for the offset), where it stands now, and how its picture follows.
@@ -115,8 +116,9 @@ function follow(handle, by) {
 }
 
 function begin(event, part, handle) {
-  if (state.climbing || event.button) return;
+  if (event.button) return;
   event.preventDefault();
+  if (state.climbing) { note(CLIMBING, { x: event.pageX, y: event.pageY }); return; }
   note("", null);
   part.focus({ preventScroll: true });
   handle.svg.setPointerCapture(event.pointerId); // which goes on where what was gripped is drawn anew
@@ -157,8 +159,9 @@ function settle(handle, by, at) {
 
 function key(event, part, handle) {
   const by = { ArrowLeft: -1, ArrowRight: 1, ArrowDown: -1, ArrowUp: 1, PageDown: -5, PageUp: 5 }[event.key];
-  if (by !== undefined && !state.climbing) {
+  if (by !== undefined) {
     event.preventDefault();
+    if (state.climbing) { note(CLIMBING, below(part)); return; }
     handle.by = (handle.by || 0) + by * state.step;
     follow(handle, handle.by);
     value(part, round(handle.now + handle.by));
