@@ -1,5 +1,6 @@
 -- The mean of two numbers by a reciprocal.
 use Rattle.std.proofs.Common.{◌≡◌, ℕ, ◌+◌, ◌-◌, ◌*◌, ◌/◌, ◌^◌, ◌<◌, ◌≤◌, ap, ◌∙◌, arith}
+use Rattle.std.proofs.lemmas.Nat.{mul-lt}
 use Rattle.std.proofs.Math.Nat.{mul-le-mul_left, mul-le-mul_right, mul-lt-mul_of_pos_right}
 use Rattle.transyt_num.proofs.ReciprocalLaws.{by_reciprocal}
 use Rattle.transyt_profile.specs.Platoon.{mixed}
@@ -34,3 +35,9 @@ travel_sum m x z x_fits z_fits =
     let both : m.limit * (by * (100 + w)) ≤ 4194304 * (by * (100 + w)) = mul-le-mul_right (by * (100 + w)) m.limit_fits in
     let apart : m.limit * (by * (100 + w)) ≡ m.limit * (100 * by) + m.limit * (w * by) = omega arith in
     rw (m.is_starting, m.is_before) (omega (arith, first, second, both, apart, m.weight_fits, m.close))
+
+-- the product of a value below 2^22 with the factor of the value that sets out fits
+pub start_fits : (m : Travel) (value : ℕ) → value < 2 ^ 22 → value * m.starting_factor < 2 ^ 64
+start_fits m value small =
+    let factor : 100 * m.reciprocal < 2 ^ 42 = omega (arith, m.close, m.weight_fits) in
+    rw m.is_starting (omega (arith, mul-lt value (100 * m.reciprocal) (2 ^ 22) (2 ^ 42) small factor))

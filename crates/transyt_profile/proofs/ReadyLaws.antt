@@ -41,6 +41,14 @@ pub all_shared : (part whole b : ℕ) (xs : List ℕ) → ((k : ℕ) → k < len
 all_shared part whole b xs each =
     All-map (λ v. v < b) (share_of part whole) xs (All-from_get_or (λ v. share_of part whole v < b) xs 0 each)
 
+-- where all shares are below 2^22, the lane has each share times f
+pub lane_all : (part whole f lane n : ℕ) (lanes xs : List ℕ) → length xs ≤ n
+    → InLane lanes (share_at part whole xs) f lane n → ((k : ℕ) → k < length xs → share_at part whole xs k < 2 ^ 22)
+    → (k : ℕ) → k < length xs → get_or lanes (4 * k + lane) 0 ≡ get_or (shared part whole xs) k 0 * f
+lane_all part whole f lane n lanes xs all ready small k below =
+    ready k (omega (arith, all, below)) (small k below)
+    ∙ ap (λ v. v * f) (sym (get_or-map (share_of part whole) xs k 0 0 below))
+
 -- the sum over all steps
 pub sum_shared : (part whole n : ℕ) (xs : List ℕ) → length xs ≤ n
     → sum_by (share_of part whole) (take n xs) ≡ sum (shared part whole xs)

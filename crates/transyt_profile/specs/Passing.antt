@@ -22,13 +22,17 @@ Fits p = All (λ v. v < p.travel.now.limit) (sent p)
 abbrev pub gone_by : Platoon → ℕ → ℕ
 gone_by p j = smoothed (sent p) (p.travel.now.percent * p.travel.now.time) j
 
--- After j steps of both turns of a platoon: the smoothed value of the last step, and the numbers of its travel.
-pub record HasPassed (p : Platoon) (j : ℕ) (g : Passing) : Type 0 where
-  pub value : g.value ≡ gone_by p j
+-- The passing value is one of a platoon whose values fit, and is below its limit; the numbers are those of its travel.
+pub record IsOf (p : Platoon) (g : Passing) : Type 0 where
   pub small : g.value < p.travel.now.limit
   pub factor : g.factor ≡ p.travel.now.before_factor
   pub place : g.place ≡ p.travel.now.place
   pub fits : Fits p
+
+-- after j steps of both turns of a platoon it is the smoothed value of the last step
+pub record HasPassed (p : Platoon) (j : ℕ) (g : Passing) : Type 0 where
+  pub value : g.value ≡ gone_by p j
+  pub is : IsOf p g
 
 -- the same of each of some platoons
 abbrev pub HavePassed : List Platoon → ℕ → List Passing → Type 0

@@ -12,6 +12,9 @@
 //! - **The stop line**: cite `queues` and `outs` of `specs/StopLine` first: the queue of a cycle that repeats for ever, by
 //!   the sums over the last steps. `arrivals_of` and `stopped_of` there stand before and after it.
 //!
+//! What travels together is a type that says of itself how its numbers hang together: `Flow` at the stop line, `Spread`,
+//! `Part`, `Travel`, `Platoon` and `Group` on the way. So the calls that take one ask for little more than lengths.
+//!
 //! Profiles, the recurrence of dispersion and that of the queue are LR 253's; the unit, each rounding, the cut, the queue
 //! without a start and the count of stops are this project's own.
 
@@ -25,6 +28,7 @@ mod cutting;
 mod dispersion;
 mod filling;
 mod flow;
+mod group;
 mod laws;
 mod mixer;
 mod passing;
@@ -35,6 +39,7 @@ mod readying;
 mod scaling;
 mod sharing;
 mod spread;
+mod start;
 mod stopline_laws;
 mod stops;
 mod together;
@@ -48,11 +53,11 @@ pub use cutting::{cut, cut_arrivals};
 pub use dispersion::disperse;
 pub use filling::{fill_uniform, start_turns};
 pub use flow::Flow;
+pub use group::Group;
 pub use laws::worked_profiles;
 pub use platoon::Platoon;
 pub use platoon_laws::worked_platoons;
 pub use queueing::queue;
-pub use readying::{Lane, share_ready};
 pub use sharing::{Part, part_of, share_into, share_part};
 pub use spread::Spread;
 pub use stopline_laws::{one_queue, worked_cycles, worked_facts_of_queues};

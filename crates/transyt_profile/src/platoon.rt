@@ -1,6 +1,6 @@
-//! A platoon that is to set out.
+//! Platoons that are to set out.
 
-ghost use Rattle.std.specs.Prelude.{◌≡◌, ◌%◌, ◌^◌, ◌<◌, length, All};
+ghost use Rattle.std.specs.Prelude.{◌≡◌, ◌%◌, ◌^◌, ◌<◌, ◌≤◌, length, All};
 
 use crate::Part;
 use crate::travel::Travel;
@@ -16,6 +16,8 @@ pub struct Platoon<'a> {
     pub part: &'a Part,
     /// How it travels.
     pub travel: &'a Travel,
-    ghost leaving_fit: { All (λ v. v < 2 ^ 30) leaving.now },
-    ghost place: { travel.now.place ≡ travel.now.time % length leaving.now },
+    pub ghost some: { 0 < length leaving.now },
+    pub ghost most: { length leaving.now ≤ 120 },
+    pub ghost leaving_fit: { All (λ v. v < 2 ^ 30) leaving.now },
+    pub ghost place: { travel.now.place ≡ travel.now.time % length leaving.now },
 }

@@ -1,107 +1,97 @@
-//! The part of a profile that goes on to one link, made ready for its travel.
+//! A platoon made ready for its travel.
 
 ghost use Rattle.std.specs.Prelude.{◌≡◌, ℕ, ◌+◌, ◌*◌, ◌^◌, ◌<◌, ◌≤◌, bit_or, fold, length, slice_index, sum, true, All, Any};
 ghost use Rattle.std.specs.Prelude.{IfNone, IfSome};
-ghost use Rattle.transyt_profile.specs.Profile.{share_of, shared};
+ghost use Rattle.transyt_profile.specs.Arriving.{sent};
+ghost use Rattle.transyt_profile.specs.Passing.{Fits, InLane};
+ghost use Rattle.transyt_profile.specs.Profile.{share_of};
 
-use crate::sharing::{Part, product, share_step};
+use crate::platoon::Platoon;
+use crate::sharing::{product, share_step};
 
-/// One of four lanes in which shares are made ready: the factor of each share in it, and the limit below which all
-/// shares have to be.
+/// One of four lanes, and the platoon whose products are made ready in it.
 #[derive(Clone, Copy)]
-pub struct Lane {
+pub(crate) struct Lane<'a> {
+    /// The platoon.
+    pub(crate) platoon: &'a Platoon<'a>,
     /// Which of the four it is, from 0.
-    pub number: usize,
-    /// The factor of each share.
-    pub factor: u64,
-    /// Shares are below this.
-    pub limit: u64,
+    pub(crate) number: usize,
     ghost within: { number < 4 },
-    ghost factor_fits: { factor ≤ 2 ^ 41 },
-    ghost limit_fits: { limit ≤ 2 ^ 22 },
 }
 
-/// Writes the part of a profile that goes on, each share times the factor of its lane, beside three others, and returns
-/// the sum of its shares, where all of them are below its limit; none where one is not.
+/// Writes the products of a platoon, each value that sets out times its factor, beside three others, and returns the sum
+/// of the values, where all of them are below the limit of the travel; none where one is not.
 ///
-/// `x` has one value for each step of the cycle and `lanes` four: each product is written at the lane's place of the four
-/// of its step. What stood there is overwritten, and the other lanes stay. It takes least time where all bits of the
-/// shares together are below the limit.
-pub fn share_ready(x: &[u64], part: &Part, lane: Lane, lanes: &mut [u64]) -> Option<u64>
-    requires most { length x.now ≤ 120 }
-    requires lanes_len { length lanes.old ≡ 4 * length x.now }
-    requires fit { All (λ v. v < 2 ^ 30) x.now }
-    ensures below { IfSome result (λ _.
-        All (λ v. v < lane.limit) (shared part.now.part part.now.whole x.now)) }
-    ensures ready { IfSome result (λ _. (k : ℕ) → k < length x.now
-        → slice_index lanes.new (4 * k + lane.number)
-        ≡ share_of part.now.part part.now.whole (slice_index x.now k) * lane.factor) }
-    ensures total { IfSome result
-        (λ total. total ≡ sum (shared part.now.part part.now.whole x.now)) }
-    ensures none { IfNone result (0 < length x.now
-        → Any (λ v. lane.limit ≤ v) (shared part.now.part part.now.whole x.now)) }
-    ensures others { (k : ℕ) → (m : ℕ) → m < 4 → (m ≡ lane.number → ⊥)
+/// `lanes` has four values for each step of the cycle: each product is written at the lane's place of the four of its step.
+/// What stood there is overwritten, and the other lanes stay. It takes least time where all bits of the values together
+/// are below the limit.
+pub(crate) fn share_ready(lane: &Lane<'_>, lanes: &mut [u64]) -> Option<u64>
+    requires { length lanes.old ≡ 4 * length lane.now.platoon.now.leaving.now }
+    ensures below { IfSome result (λ _. Fits lane.now.platoon.now) }
+    ensures ready { IfSome result (λ _. InLane lane.now.number lanes.new lane.now.platoon.now) }
+    ensures total { IfSome result (λ total. total ≡ sum (sent lane.now.platoon.now)) }
+    ensures none { IfNone result
+        (Any (λ v. lane.now.platoon.now.travel.now.limit ≤ v) (sent lane.now.platoon.now)) }
+    ensures others { (k : ℕ) → (m : ℕ) → m < 4 → (m ≡ lane.now.number → ⊥)
         → slice_index lanes.new (4 * k + m) ≡ slice_index lanes.old (4 * k + m) }
 {
+    let Lane { platoon, number } = *lane;
+    let part = platoon.part;
     if part.quick {
-        let total = share_below(x, part, lane, lanes);
+        let total = share_below(lane, lanes);
         if total.is_some() {
             return total;
         }
     }
     // Any part: the greatest share is compared, since all bits together can reach the limit though no share does.
+    let x = platoon.leaving;
+    let factor = platoon.travel.starting_factor;
+    let limit = platoon.travel.limit;
     let mut total: u64 = 0;
     let mut greatest: u64 = 0;
     for i in 0..x.len() {
         let share = share_step(x[i], part);
-        lanes[4 * i + lane.number] = times(share, lane.factor);
+        lanes[4 * i + number] = times(share, factor);
         total += share;
         greatest = greatest.max(share);
     }
-    if greatest < lane.limit {
-        Some(total)
-    } else {
-        None
-    }
+    if greatest < limit { Some(total) } else { None }
 }
 
-/// `share_ready` with one product and no division a step, where all bits of the shares together are below
-/// the limit: then each share is. None where they are not. Nothing is tested at a step, so that no step waits for the one
+/// `share_ready` with one product and no division a step, where all bits of the values together are below
+/// the limit: then each value is. None where they are not. Nothing is tested at a step, so that no step waits for the one
 /// before.
-fn share_below(x: &[u64], part: &Part, lane: Lane, lanes: &mut [u64]) -> Option<u64>
-    requires most { length x.now ≤ 120 }
-    requires lanes_len { length lanes.old ≡ 4 * length x.now }
-    requires fit { All (λ v. v < 2 ^ 30) x.now }
-    requires quick { part.now.quick ≡ true }
-    ensures below { IfSome result (λ _.
-        All (λ v. v < lane.limit) (shared part.now.part part.now.whole x.now)) }
-    ensures ready { IfSome result (λ _. (k : ℕ) → k < length x.now
-        → slice_index lanes.new (4 * k + lane.number)
-        ≡ share_of part.now.part part.now.whole (slice_index x.now k) * lane.factor) }
-    ensures total { IfSome result
-        (λ total. total ≡ sum (shared part.now.part part.now.whole x.now)) }
-    ensures none { IfNone result
-        (lane.limit ≤ fold (λ bits v. bit_or bits (share_of part.now.part part.now.whole v)) 0
-        x.now) }
-    ensures others { (k : ℕ) → (m : ℕ) → m < 4 → (m ≡ lane.number → ⊥)
+fn share_below(lane: &Lane<'_>, lanes: &mut [u64]) -> Option<u64>
+    requires lanes_len { length lanes.old ≡ 4 * length lane.now.platoon.now.leaving.now }
+    requires quick { lane.now.platoon.now.part.now.quick ≡ true }
+    ensures below { IfSome result (λ _. Fits lane.now.platoon.now) }
+    ensures ready { IfSome result (λ _. InLane lane.now.number lanes.new lane.now.platoon.now) }
+    ensures total { IfSome result (λ total. total ≡ sum (sent lane.now.platoon.now)) }
+    ensures none { IfNone result (lane.now.platoon.now.travel.now.limit
+        ≤ fold (λ bits v. bit_or bits (share_of lane.now.platoon.now.part.now.part
+        lane.now.platoon.now.part.now.whole v)) 0 lane.now.platoon.now.leaving.now) }
+    ensures others { (k : ℕ) → (m : ℕ) → m < 4 → (m ≡ lane.now.number → ⊥)
         → slice_index lanes.new (4 * k + m) ≡ slice_index lanes.old (4 * k + m) }
 {
-    let part = *part;
+    let Lane { platoon, number } = *lane;
+    let x = platoon.leaving;
+    let part = *platoon.part;
+    let factor = platoon.travel.starting_factor;
+    let limit = platoon.travel.limit;
     let mut total: u64 = 0;
     let mut bits: u64 = 0;
     for i in 0..x.len() {
         let share = product(x[i], &part);
-        lanes[4 * i + lane.number] = times(share, lane.factor);
+        lanes[4 * i + number] = times(share, factor);
         total += share;
         bits |= share;
     }
-    if bits < lane.limit { Some(total) } else { None }
+    if bits < limit { Some(total) } else { None }
 }
 
-/// A product, where the value is below 2^22.
+/// A product, where it has 64 bits.
 fn times(value: u64, factor: u64) -> u64
-    requires factor { factor ≤ 2 ^ 41 }
-    ensures { value < 2 ^ 22 → result ≡ value * factor }
+    ensures { value * factor < 2 ^ 64 → result ≡ value * factor }
 {
     value.wrapping_mul(factor)
 }

@@ -9,8 +9,8 @@ abbrev pub invariant-loop-i : goal.invariant-loop-i
 invariant-loop-i l = record {
   most : (k : ℕ) → k < l.i → share_at l.part.part l.part.whole l.x k ≤ l.bits;
   bits : l.bits ≡ fold (λ bits v. bit_or bits (share_of l.part.part l.part.whole v)) 0 (take l.i l.x);
-  ready : InLane l.lanes (share_at l.part.part l.part.whole l.x) l.lane.factor l.lane.number l.i;
-  others : OthersStay l.initial.lanes l.lanes l.lane.number;
+  ready : InLane l.lanes (share_at l.part.part l.part.whole l.x) l.factor l.number l.i;
+  others : OthersStay l.initial.lanes l.lanes l.number;
   so_far : l.total ≡ sum_by (share_of l.part.part l.part.whole) (take l.i l.x);
   total : l.total ≤ l.i * 2 ^ 44;
 }

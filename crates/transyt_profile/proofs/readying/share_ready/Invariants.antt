@@ -10,8 +10,8 @@ invariant-loop-i l = record {
   most : (k : ℕ) → k < l.i → share_at l.part.part l.part.whole l.x k ≤ l.greatest;
   reached : Reached (share_at l.part.part l.part.whole l.x) l.i l.greatest;
   greatest : l.greatest < 2 ^ 44;
-  ready : InLane l.lanes (share_at l.part.part l.part.whole l.x) l.lane.factor l.lane.number l.i;
-  others : OthersStay l.initial.lanes l.lanes l.lane.number;
+  ready : InLane l.lanes (share_at l.part.part l.part.whole l.x) l.factor l.number l.i;
+  others : OthersStay l.initial.lanes l.lanes l.number;
   so_far : l.total ≡ sum_by (share_of l.part.part l.part.whole) (take l.i l.x);
   total : l.total ≤ l.i * 2 ^ 44;
 }

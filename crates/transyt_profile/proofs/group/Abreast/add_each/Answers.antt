@@ -9,30 +9,30 @@ use Rattle.transyt_profile.specs.declared.platoon.Platoon.{Platoon}
 use Rattle.transyt_profile.proofs.Arrived.{arriving_each, none_arrived}
 use Rattle.transyt_profile.proofs.Mixing.{dispersed_small}
 use Rattle.transyt_profile.proofs.Turns.{passed_at, length-sent}
-use Rattle.transyt_profile.proofs.together.add_each.Goals as goal
+use Rattle.transyt_profile.proofs.group.Abreast.add_each.Goals as goal
 
 -- with the first turn past, nothing has arrived yet
 pub second-init : goal.second-init
 second-init g c = record {
   passed = λ i d e inside. passed_at _ _ _ _ (omega arith) (c.first.invariant i d e inside);
-  sums = λ j. omega (arith, none_arrived j c.args.abreast.now.platoons.now);
+  sums = λ j. omega (arith, none_arrived j c.args.self.now.ready.platoons.now);
   grows = λ limit within j d h. omega (arith, within j d h);
 }
 
 -- no place holds more than stood there and four platoons for each step
 pub arrive_each-requires : goal.arrive_each-requires
 arrive_each-requires g c =
-    let n : ℕ = c.args.abreast.now.step_count in
-    let all : ℕ = length c.args.abreast.now.platoons.now in
-    let few : g.row.N * 24 < 2 ^ 63 = omega (arith, c.requires.count, c.args.abreast.now.few) in
+    let n : ℕ = c.args.self.now.ready.step_count in
+    let all : ℕ = length c.args.self.now.ready.platoons.now in
+    let few : g.row.N * 24 < 2 ^ 63 = omega (arith, c.args.self.now.count, c.args.self.now.ready.few) in
     let most : all * 2 ^ 22 * c.second.step ≤ 4 * 2 ^ 22 * 120 =
-    mul-le (all * 2 ^ 22) c.second.step (4 * 2 ^ 22) 120 (omega (arith, c.args.abreast.now.few))
-    (omega (arith, c.second-test.true, c.args.abreast.now.most)) in
+    mul-le (all * 2 ^ 22) c.second.step (4 * 2 ^ 22) 120 (omega (arith, c.args.self.now.ready.few))
+    (omega (arith, c.second-test.true, c.args.self.now.ready.most)) in
     let len : length c.second.turns ≡ 2 * n = omega (arith, c.second.auto.turns, c.requires.turns_len) in
     let stood = folded_each n c.args.turns.now (2 ^ 48) c.requires.fit c.requires.turns_len in
     let fit : All (λ v. v < 2 ^ 61) c.second.turns = λ j d h.
     omega (arith, most, c.second.invariant.grows (2 ^ 48) stood j d h) in
-    (few, (c.requires.count, (c.second-test.true, (c.second.invariant.passed, (len, fit)))))
+    (omega arith, (few, (c.second-test.true, (c.second.invariant.passed, (len, fit)))))
 
 -- one step more
 pub second-preserved : goal.second-preserved
@@ -46,8 +46,8 @@ second-preserved g c = record {
 -- the values added at both places of a step are its arrivals
 pub returns-clause-value : goal.returns-clause-value
 returns-clause-value g c =
-    let n : ℕ = c.args.abreast.now.step_count in
-    let ps : List Platoon = c.args.abreast.now.platoons.now in
+    let n : ℕ = c.args.self.now.ready.step_count in
+    let ps : List Platoon = c.args.self.now.ready.platoons.now in
     is_added_each arriving ps (folded n c.args.turns.now) (folded n c.second.turns)
     (length-folded n c.second.turns ∙ sym (length-folded n c.args.turns.now))
     (λ k h.
@@ -59,22 +59,22 @@ returns-clause-value g c =
       get_or-folded n c.args.turns.now k inside,
       c.second.invariant.sums k,
       c.second.invariant.sums (n + k),
-      arriving_each n c.second.step k ps c.args.abreast.now.ready.same end inside,
+      arriving_each n c.second.step k ps c.args.self.now.ready.ready.same end inside,
     ))
 
 -- so a limit on what stood goes up by those of the platoons
 pub returns-clause-grows : goal.returns-clause-grows
 returns-clause-grows g c = λ limit within.
-    let n : ℕ = c.args.abreast.now.step_count in
-    let ps : List Platoon = c.args.abreast.now.platoons.now in
+    let n : ℕ = c.args.self.now.ready.step_count in
+    let ps : List Platoon = c.args.self.now.ready.platoons.now in
     rw (returns-clause-value g c)
     (each_grows arriving ps (folded n c.args.turns.now) limit (2 ^ 22)
     (λ i d h.
-    length-map-range_with_len _ 0 _ ∙ length-sent (get_or ps i d) ∙ c.args.abreast.now.ready.same i d h
+    length-map-range_with_len _ 0 _ ∙ length-sent (get_or ps i d) ∙ c.args.self.now.ready.ready.same i d h
     ∙ sym (length-folded n c.args.turns.now))
     (λ i d h.
     let p : Platoon = get_or ps i d in
     dispersed_small (sent p) _ _ (2 ^ 22)
-    (omega (arith, length-sent p, c.args.abreast.now.ready.same i d h, c.args.abreast.now.some))
-    (λ k e below. omega (arith, c.args.abreast.now.ready.fit i d h k e below, p.travel.now.limit_fits)))
+    (omega (arith, length-sent p, c.args.self.now.ready.ready.same i d h, c.args.self.now.ready.some))
+    (λ k e below. omega (arith, c.args.self.now.ready.ready.fit i d h k e below, p.travel.now.limit_fits)))
     within)

@@ -3,7 +3,7 @@ use Rattle.std.proofs.Common.{◌∙◌, arith}
 use Rattle.std.proofs.lemmas.List.{length-set}
 use Rattle.transyt_profile.specs.Passing.{HasPassed}
 use Rattle.transyt_profile.proofs.Lanes.{go_more}
-use Rattle.transyt_profile.proofs.abreast.begin_each.Goals as goal
+use Rattle.transyt_profile.proofs.group.Abreast.begin_each.Goals as goal
 
 pub loop-lane-preserved : goal.loop-lane-preserved
 loop-lane-preserved g c = record {
@@ -14,4 +14,4 @@ loop-lane-preserved g c = record {
 
 pub returns : goal.returns
 returns g c = λ i d e inside.
-    c.loop-lane.invariant.begun i (omega (arith, inside, c.requires.count, c.loop-lane-test.false)) d e inside
+    c.loop-lane.invariant.begun i (omega (arith, inside, c.args.self.now.count, c.loop-lane-test.false)) d e inside

@@ -3,7 +3,7 @@ use Rattle.std.proofs.Common.{◌+◌, ◌∙◌, arith}
 use Rattle.std.proofs.lemmas.List.{length-set}
 use Rattle.transyt_profile.specs.Passing.{HasPassed}
 use Rattle.transyt_profile.proofs.Lanes.{go_less, go_more}
-use Rattle.transyt_profile.proofs.abreast.pass_each.Goals as goal
+use Rattle.transyt_profile.proofs.group.Abreast.pass_each.Goals as goal
 
 pub loop-lane-init : goal.loop-lane-init
 loop-lane-init g c = record {
@@ -12,9 +12,9 @@ loop-lane-init g c = record {
   left = λ i above d e inside. c.requires.passed i d e inside;
 }
 
-pub pass-requires-clause-passed : goal.pass-requires-clause-passed
-pass-requires-clause-passed g c =
-    c.loop-lane.invariant.left c.loop-lane.lane (omega arith) _ _ (omega (arith, c.loop-lane-test.true, c.requires.count))
+pub pass-requires : goal.pass-requires
+pass-requires g c =
+    c.loop-lane.invariant.left c.loop-lane.lane (omega arith) _ _ (omega (arith, c.loop-lane-test.true, c.args.self.now.count))
 
 pub loop-lane-preserved : goal.loop-lane-preserved
 loop-lane-preserved g c = record {
@@ -26,4 +26,4 @@ loop-lane-preserved g c = record {
 
 pub returns : goal.returns
 returns g c = λ i d e inside.
-    c.loop-lane.invariant.gone i (omega (arith, inside, c.requires.count, c.loop-lane-test.false)) d e inside
+    c.loop-lane.invariant.gone i (omega (arith, inside, c.args.self.now.count, c.loop-lane-test.false)) d e inside
