@@ -3,14 +3,16 @@
 ghost use Rattle.std.specs.Prelude.{◌≡◌, ℕ, ◌^◌, ◌+◌, ◌%◌, ◌<◌, ◌≤◌, ◌&&◌, ◌||◌, nat_le, nat_lt, length, map, All};
 ghost use Rattle.std.specs.Prelude.{slice_index_or, false, if◌then◌else◌, IsTrue, ◌↔◌};
 ghost use Rattle.std.specs.List.{range_with_len};
-ghost use Rattle.transyt_cycle.specs.Cycle.{minus_mod};
-ghost use Rattle.transyt_parts.specs.Plan.{stage_of};
-ghost use Rattle.transyt_parts.specs.Valid.{IsNode};
-ghost use Rattle.transyt_stage.specs.Green.{since_change, runs_in, shows, is_shown, shown_of, opens, is_held};
+ghost use Rattle.transyt_cycle.specs.Cycle.{minus_mod, step_before};
+ghost use Rattle.transyt_parts.specs.Plan.{stage_of, length_at};
+ghost use Rattle.transyt_net.specs.Parts.{link_of};
+ghost use Rattle.transyt_net.specs.Edits.{the_node};
+ghost use Rattle.transyt_stage.specs.Green.{runs_in, shows, is_shown, shown_of, opens, is_held};
 ghost use Rattle.transyt_stage.specs.Green.{is_starting};
 ghost use Rattle.transyt_stage.specs.Green.{green_at, is_green, passed_at, signal, IsGreen};
 
-use crate::shown::Shown;
+use crate::shown::{Shown, ShownStep};
+use crate::signals::{NetLink, Signals, Span};
 use transyt_cycle::{minus_mod, step_before};
 use transyt_net::{Net, Node, Stage, stage_length};
 
@@ -29,27 +31,39 @@ pub fn is_green(net: &Net, link: usize, step: u32) -> bool
     // the same as a fact: some stage shows it within the end lag, and no step within the start lag opens it
     ensures by_stage { IsTrue result ↔ IsGreen net.now link step }
 {
-    test_green(net, link, step)
+    test_green(&NetLink { net, place: link }, step as usize)
 }
 
 /// The test of `is_green`.
-fn test_green(net: &Net, link: usize, step: u32) -> bool
-    requires link { link < length net.now.links }
-    requires step { step < net.now.frame.step_count }
-    ensures { result ≡ is_green net.now link step }
+fn test_green(at: &NetLink<'_>, step: usize) -> bool
+    requires { step < at.now.net.now.frame.step_count }
+    ensures { result ≡ is_green at.now.net.now at.now.place step }
 {
-    let step_count = net.frame().step_count;
-    let node = net.node_of(link);
-    let link = net.link(link);
+    let signals = signals(at);
     let mut steps = [false; MOST_STEPS];
-    let steps = &mut steps[..step_count as usize];
-    fill_shown(step_count, node, &link.stages, steps);
+    let steps = &mut steps[..signals.step_count as usize];
+    fill_shown(&signals, steps);
+    let link = at.net.link(at.place);
     let shown = Shown {
         steps,
         start_lag: link.start_lag,
         end_lag: link.end_lag,
     };
-    green_at(&shown, step as usize)
+    green_at(&ShownStep { shown, step })
+}
+
+/// The signals of a link.
+fn signals<'a>(at: &NetLink<'a>) -> Signals<'a>
+    ensures steps { result.step_count ≡ at.now.net.now.frame.step_count }
+    ensures node { result.node.now
+        ≡ the_node at.now.net.now (link_of at.now.net.now at.now.place).node }
+    ensures stages { result.stages.now ≡ (link_of at.now.net.now at.now.place).stages }
+{
+    Signals {
+        step_count: at.net.frame().step_count,
+        node: at.net.node_of(at.place),
+        stages: &at.net.link(at.place).stages,
+    }
 }
 
 /// Fills `out` with the GO of the link at a place in each step by its green alone, in millionths of a vehicle.
@@ -62,36 +76,34 @@ pub fn fill_go(net: &Net, link: usize, out: &mut [u64])
     ensures value { out.new ≡ signal net.now link }
     ensures small { All (λ v. v < 2 ^ 30) out.new }
 {
-    let node = net.node_of(link);
+    let at = NetLink { net, place: link };
     let found = net.link(link);
     if found.start_lag > 0 || found.end_lag > 0 {
-        fill_lagged(net, link, out);
+        fill_lagged(&at, out);
         return;
     }
     let room = net.per_step(found.saturation);
     out.fill(0);
-    show_stages(net.frame().step_count, node, &found.stages, room, out);
+    show_stages(&signals(&at), room, out);
 }
 
 /// Fills GO of a link with lags: first the steps at which green is shown, then those at which traffic goes.
-fn fill_lagged(net: &Net, link: usize, out: &mut [u64])
-    requires link { link < length net.now.links }
-    requires steps { length out.old ≡ net.now.frame.step_count }
-    ensures value { out.new ≡ signal net.now link }
+fn fill_lagged(at: &NetLink<'_>, out: &mut [u64])
+    requires { length out.old ≡ at.now.net.now.frame.step_count }
+    ensures value { out.new ≡ signal at.now.net.now at.now.place }
     ensures small { All (λ v. v < 2 ^ 30) out.new }
 {
-    let step_count = net.frame().step_count;
-    let node = net.node_of(link);
-    let link = net.link(link);
+    let signals = signals(at);
     let mut steps = [false; MOST_STEPS];
-    let steps = &mut steps[..step_count as usize];
-    fill_shown(step_count, node, &link.stages, steps);
+    let steps = &mut steps[..signals.step_count as usize];
+    fill_shown(&signals, steps);
+    let link = at.net.link(at.place);
     let shown = Shown {
         steps,
         start_lag: link.start_lag,
         end_lag: link.end_lag,
     };
-    let room = net.per_step(link.saturation);
+    let room = at.net.per_step(link.saturation);
     fill_passed(&shown, room, out);
 }
 
@@ -106,25 +118,29 @@ fn fill_passed(shown: &Shown<'_>, room: u64, out: &mut [u64])
     ensures small { All (λ v. v < 2 ^ 30) out.new }
 {
     for i in 0..out.len() {
-        out[i] = if green_at(shown, i) { room } else { 0 };
+        let at = ShownStep {
+            shown: *shown,
+            step: i,
+        };
+        out[i] = if green_at(&at) { room } else { 0 };
     }
 }
 
 /// Whether a link is green at a step, by the steps at which it is shown and by its lags.
-fn green_at(shown: &Shown<'_>, step: usize) -> bool
-    requires { step < length shown.now.steps.now }
-    ensures { result ≡ green_at shown.now.steps.now shown.now.start_lag shown.now.end_lag step }
+fn green_at(at: &ShownStep<'_>) -> bool
+    ensures { result ≡ green_at at.now.shown.steps.now at.now.shown.start_lag at.now.shown.end_lag
+        at.now.step }
 {
-    is_held(shown, step) && !is_starting(shown, step)
+    is_held(at) && !is_starting(at)
 }
 
 /// Whether the link is shown at a step or at one of the steps of its end lag before it.
-fn is_held(shown: &Shown<'_>, step: usize) -> bool
-    requires { step < length shown.now.steps.now }
-    ensures { result ≡ is_held shown.now.steps.now shown.now.end_lag step }
+fn is_held(at: &ShownStep<'_>) -> bool
+    ensures { result ≡ is_held at.now.shown.steps.now at.now.shown.end_lag at.now.step }
 {
-    for back in 0..shown.end_lag + 1 {
-        if shown.steps[step_back(shown.steps.len(), step, back)] {
+    for back in 0..at.shown.end_lag + 1 {
+        let before = step_back(at, back);
+        if before.shown.steps[before.step] {
             return true;
         }
     }
@@ -132,12 +148,11 @@ fn is_held(shown: &Shown<'_>, step: usize) -> bool
 }
 
 /// Whether one of the steps of the start lag, up to a step, opens the link.
-fn is_starting(shown: &Shown<'_>, step: usize) -> bool
-    requires { step < length shown.now.steps.now }
-    ensures { result ≡ is_starting shown.now.steps.now shown.now.start_lag step }
+fn is_starting(at: &ShownStep<'_>) -> bool
+    ensures { result ≡ is_starting at.now.shown.steps.now at.now.shown.start_lag at.now.step }
 {
-    for back in 0..shown.start_lag {
-        if opens(shown, step_back(shown.steps.len(), step, back)) {
+    for back in 0..at.shown.start_lag {
+        if opens(&step_back(at, back)) {
             return true;
         }
     }
@@ -145,119 +160,116 @@ fn is_starting(shown: &Shown<'_>, step: usize) -> bool
 }
 
 /// Whether a step opens the link: it is shown at it, and not at the step before.
-fn opens(shown: &Shown<'_>, step: usize) -> bool
-    requires { step < length shown.now.steps.now }
-    ensures { result ≡ opens shown.now.steps.now step }
+fn opens(at: &ShownStep<'_>) -> bool
+    ensures { result ≡ opens at.now.shown.steps.now at.now.step }
 {
-    let before = step_before(shown.steps.len() as u64, step as u64) as usize;
-    shown.steps[step] && !shown.steps[before]
+    let steps = at.shown.steps;
+    let before = step_before(steps.len() as u64, at.step as u64) as usize;
+    steps[at.step] && !steps[before]
 }
 
 /// The step that lies a number of steps before a step, round the cycle.
-fn step_back(step_count: usize, step: usize, back: u32) -> usize
-    requires { step < step_count }
-    ensures value { result ≡ minus_mod step_count step back }
-    ensures below { result < step_count }
+fn step_back<'a>(at: &ShownStep<'a>, back: u32) -> ShownStep<'a>
+    ensures shown { result.shown.steps.now ≡ at.now.shown.steps.now }
+    ensures step { result.step ≡ minus_mod (length at.now.shown.steps.now) at.now.step back }
 {
+    let step_count = at.shown.steps.len();
     let steps = back as usize;
     // most steps need no division
-    if steps <= step {
-        step - steps
+    let step = if steps <= at.step {
+        at.step - steps
     } else if steps <= step_count {
-        step_count - (steps - step)
+        step_count - (steps - at.step)
     } else {
-        minus_mod(step_count as u64, step as u64, u64::from(back)) as usize
+        minus_mod(step_count as u64, at.step as u64, u64::from(back)) as usize
+    };
+    ShownStep {
+        shown: at.shown,
+        step,
     }
 }
 
-/// Tells for each step whether a link that runs in these stages is shown at it.
+/// Tells for each step whether the link is shown at it.
 #[tactic(auto, using(crate::proofs::ShownLaws::shown_is))]
-fn fill_shown(step_count: u32, node: &Node, stages: &[u32], shown: &mut [bool])
-    requires node { IsNode step_count node.now }
-    requires steps { length shown.old ≡ step_count }
-    requires some { 0 < step_count }
-    requires most { step_count ≤ 120 }
-    ensures { shown.new ≡ shown_of step_count node.now stages.now }
+fn fill_shown(signals: &Signals<'_>, shown: &mut [bool])
+    requires { length shown.old ≡ signals.now.step_count }
+    ensures { shown.new
+        ≡ shown_of signals.now.step_count signals.now.node.now signals.now.stages.now }
 {
     shown.fill(false);
-    show_stages(step_count, node, stages, true, shown);
+    show_stages(signals, true, shown);
 }
 
-/// Gives `value` to the steps at which a link that runs in these stages is shown.
-fn show_stages<T: Copy>(step_count: u32, node: &Node, stages: &[u32], value: T, out: &mut [T])
-    requires node { IsNode step_count node.now }
-    requires steps { length out.old ≡ step_count }
-    requires some { 0 < step_count }
-    requires most { step_count ≤ 120 }
+/// Gives `value` to the steps at which the link is shown.
+fn show_stages<T: Copy>(signals: &Signals<'_>, value: T, out: &mut [T])
+    requires { length out.old ≡ signals.now.step_count }
     ensures steps { length out.new ≡ length out.old }
-    ensures shown { (i : ℕ) → (other : T) → i < step_count → slice_index_or out.new i other
-        ≡ (if is_shown step_count node.now stages.now i then value else slice_index_or out.old i
-        other) }
-{
-    for place in 0..node.stages.len() {
-        show_stage(step_count, node, stages, place, value, out);
-    }
-}
-
-/// Gives `value` to the steps at which the stage at a place shows a link that runs in these stages.
-fn show_stage<T: Copy>(
-    step_count: u32,
-    node: &Node,
-    stages: &[u32],
-    place: usize,
-    value: T,
-    out: &mut [T],
-)
-    requires node { IsNode step_count node.now }
-    requires place { place < length node.now.stages }
-    requires steps { length out.old ≡ step_count }
-    requires some { 0 < step_count }
-    requires most { step_count ≤ 120 }
-    ensures steps { length out.new ≡ length out.old }
-    ensures shown { (i : ℕ) → (other : T) → i < step_count → slice_index_or out.new i other
-        ≡ (if shows step_count node.now stages.now i place then value else slice_index_or out.old i
-        other) }
-{
-    if !runs_in(stages, place) {
-        return;
-    }
-    let stage = stage_at(node, place);
-    let before = step_before(node.stages.len() as u64, place as u64) as usize;
-    let from = first_shown(stages, before, stage.intergreen);
-    let to = stage_length(node, step_count, place as u32 + 1);
-    show_steps(node.offset + stage.change, from, to, value, out);
-}
-
-/// The step of a stage from which it shows a link: its first where the link runs in the stage before too, else the
-/// first after its intergreen.
-fn first_shown(stages: &[u32], before: usize, intergreen: u32) -> u32
-    requires { intergreen ≤ 120 }
-    ensures value { result ≡ (if runs_in stages.now before then 0 else intergreen) }
-    ensures within { result ≤ 120 }
-{
-    if runs_in(stages, before) {
-        0
-    } else {
-        intergreen
-    }
-}
-
-/// Gives `value` to the steps that come at least `from` and fewer than `to` steps after the change.
-#[tactic(auto, using(crate::proofs::ShownLaws::between_end))]
-fn show_steps<T: Copy>(change: u32, from: u32, to: u32, value: T, out: &mut [T])
-    requires some { 0 < length out.old }
-    requires most { length out.old ≤ 120 }
-    requires change { change ≤ 240 }
-    requires from { from ≤ 120 }
-    requires to { to ≤ length out.old }
-    ensures steps { length out.new ≡ length out.old }
-    ensures shown { (i : ℕ) → (other : T) → i < length out.old → slice_index_or out.new i other
-        ≡ (if nat_le from (minus_mod (length out.old) i change) && nat_lt
-        (minus_mod (length out.old) i change) to
+    ensures shown { (i : ℕ) → (other : T) → i < signals.now.step_count
+        → slice_index_or out.new i other
+        ≡ (if is_shown signals.now.step_count signals.now.node.now signals.now.stages.now i
         then value else slice_index_or out.old i other) }
 {
-    let mut step = (from + change) as usize % out.len();
-    for since in from..to {
+    let node = signals.node;
+    for place in 0..node.stages.len() {
+        show_stage(signals, place, value, out);
+    }
+}
+
+/// Gives `value` to the steps at which the stage at a place shows the link.
+fn show_stage<T: Copy>(signals: &Signals<'_>, place: usize, value: T, out: &mut [T])
+    requires place { place < length signals.now.node.now.stages }
+    requires steps { length out.old ≡ signals.now.step_count }
+    ensures steps { length out.new ≡ length out.old }
+    ensures shown { (i : ℕ) → (other : T) → i < signals.now.step_count
+        → slice_index_or out.new i other
+        ≡ (if shows signals.now.step_count signals.now.node.now signals.now.stages.now i place
+        then value else slice_index_or out.old i other) }
+{
+    if !runs_in(signals.stages, place) {
+        return;
+    }
+    show_steps(&span(signals, place), value, out);
+}
+
+/// The steps at which the stage at a place shows a link that runs in it: from its first where the link runs in the
+/// stage before too, else from the first after its intergreen.
+fn span(signals: &Signals<'_>, place: usize) -> Span
+    requires { place < length signals.now.node.now.stages }
+    ensures steps { result.step_count ≡ signals.now.step_count }
+    ensures change { result.change
+        ≡ signals.now.node.now.offset + (stage_of signals.now.node.now.stages place).change }
+    ensures from { result.from ≡ (if runs_in signals.now.stages.now
+        (step_before (length signals.now.node.now.stages) place)
+        then 0 else (stage_of signals.now.node.now.stages place).intergreen) }
+    ensures to { result.to ≡ length_at signals.now.step_count signals.now.node.now.stages place }
+{
+    let node = signals.node;
+    let stage = stage_at(node, place);
+    let before = step_before(node.stages.len() as u64, place as u64) as usize;
+    Span {
+        step_count: signals.step_count,
+        change: node.offset + stage.change,
+        from: if runs_in(signals.stages, before) {
+            0
+        } else {
+            stage.intergreen
+        },
+        to: stage_length(node, signals.step_count, place as u32 + 1),
+    }
+}
+
+/// Gives `value` to the steps of a span.
+#[tactic(auto, using(crate::proofs::ShownLaws::between_end))]
+fn show_steps<T: Copy>(span: &Span, value: T, out: &mut [T])
+    requires { length out.old ≡ span.now.step_count }
+    ensures steps { length out.new ≡ length out.old }
+    ensures shown { (i : ℕ) → (other : T) → i < span.now.step_count → slice_index_or out.new i other
+        ≡ (if nat_le span.now.from (minus_mod span.now.step_count i span.now.change) && nat_lt
+        (minus_mod span.now.step_count i span.now.change) span.now.to
+        then value else slice_index_or out.old i other) }
+{
+    let mut step = (span.from + span.change) as usize % out.len();
+    for since in span.from..span.to {
         let _ = since;
         out[step] = value;
         step = step_after(out.len(), step);

@@ -11,6 +11,7 @@ mod giving_way;
 mod green;
 mod laws;
 mod shown;
+mod signals;
 
 pub use giving_way::give_way;
 pub use green::{fill_go, is_green};

@@ -16,3 +16,13 @@ pub(crate) struct Shown<'a> {
     ghost most: { length steps.now ≤ 120 },
     ghost end_within: { end_lag < length steps.now },
 }
+
+/// A step of the cycle, from 0, beside those at which a link is shown.
+#[derive(Clone, Copy)]
+pub(crate) struct ShownStep<'a> {
+    /// At which steps the link is shown.
+    pub(crate) shown: Shown<'a>,
+    /// The step.
+    pub(crate) step: usize,
+    ghost within: { step < length shown.steps.now },
+}

@@ -7,4 +7,4 @@ use Rattle.transyt_stage.proofs.green.is_starting.Given as goal
 -- so far none opens it
 abbrev pub invariant-loop-back : goal.invariant-loop-back
 invariant-loop-back l = (k : ℕ) → k < l.back
-    → opens l.shown.steps.now (minus_mod (length l.shown.steps.now) l.step k) ≡ false
+    → opens l.at.shown.steps.now (minus_mod (length l.at.shown.steps.now) l.at.step k) ≡ false

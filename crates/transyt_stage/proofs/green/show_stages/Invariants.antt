@@ -6,7 +6,7 @@ use Rattle.transyt_stage.proofs.green.show_stages.Given as goal
 
 -- a step has the value where one of the stages so far shows it
 abbrev pub invariant-loop-place : goal.invariant-loop-place
-invariant-loop-place g l = (i : ℕ) (d : g.row.T.Denot) → i < l.step_count
+invariant-loop-place g l = (i : ℕ) (d : g.row.T.Denot) → i < l.signals.step_count
     → get_or l.out i d
-    ≡ (if list_any (shows l.step_count l.node l.stages i) (range_with_len 0 l.place) then l.value
+    ≡ (if list_any (shows l.signals.step_count l.signals.node.now l.signals.stages.now i) (range_with_len 0 l.place) then l.value
     else get_or l.initial.out i d)
