@@ -215,6 +215,7 @@ class Ending(unittest.TestCase):
                 assert board.stderr is not None
                 address = board.stderr.readline().strip()
                 self.assertRegex(address, r"^http://127\.0\.0\.1:[0-9]+/#[0-9a-f]{32}$")
+                self.assertIn("Ctrl-C ends the board", board.stderr.readline())
                 with open(f"/proc/{board.pid}/cmdline", encoding="utf-8") as file:
                     self.assertNotIn(address.split("#")[1], file.read())
                 children = self.children(board.pid)

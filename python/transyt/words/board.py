@@ -39,6 +39,7 @@ def run(args: argparse.Namespace) -> int:
             signal.signal(number, end)
         server, _ = serve(board)
         tell(f"{server.origin}/#{server.secret}")
+        tell("open this address in a browser; Ctrl-C ends the board")
         if args.open:
             if not webbrowser.open(f"{server.origin}/#ticket={server.ticket.text}"):
                 tell("no browser could be opened: open the address above in one")
