@@ -1,6 +1,6 @@
 -- Turns that pass, one after another: each adds its look and its work, and nothing else changes.
 use Rattle.std.proofs.Common.{◌≡◌, ℕ, zero, suc, ◌+◌, ◌-◌, ◌%◌, ◌<◌, ◌≤◌, true, false, None, refl, ap, sym, ◌∙◌, subst, arith}
-use Rattle.std.proofs.Math.Nat.{mod-add-mod, mod-eq_of_lt}
+use Rattle.std.proofs.Math.Nat.{mod-add-mod, mod-eq_of_lt, mod-zero}
 use borrow.Author.Count.{below_more}
 use Rattle.transyt_climb.specs.declared.turn.Turn.{Turn}
 use Rattle.transyt_climb.specs.declared.turn.Turn.TheVariants.{Passed}
@@ -26,13 +26,18 @@ noted_more n c =
     let looked : c.looked + n + 1 ≡ c.looked + (n + 1) = omega arith in
     λ i. record { place = place i; since = since i; looked = looked i; budget = c.budget; count = c.count }
 
+-- a place in a list that has any
+in_list : (count place : ℕ) → (0 < count → place < count) → place ≡ place % count
+in_list zero place inside = sym (mod-zero place)
+in_list (suc n) place inside = sym (mod-eq_of_lt (inside (omega arith)))
+
 -- no look yet
-pub noted_none : (c : Counters) → c.place < c.count → c ≡ passed_by 0 c
+pub noted_none : (c : Counters) → (0 < c.count → c.place < c.count) → c ≡ passed_by 0 c
 noted_none c inside =
     let place : c.place ≡ c.place + 0 = omega arith in
     let since : c.since ≡ c.since + 0 = omega arith in
     let looked : c.looked ≡ c.looked + 0 = omega arith in
-    let within = sym (mod-eq_of_lt inside) ∙ ap (λ p. p % c.count) place in
+    let within = in_list c.count c.place inside ∙ ap (λ p. p % c.count) place in
     λ i. record { place = within i; since = since i; looked = looked i; budget = c.budget; count = c.count }
 
 -- n turns that all pass, and the state after them
@@ -89,7 +94,7 @@ are_passing : (m : Machine) (n : ℕ) → m.counters.place < m.counters.count �
     → ((k : ℕ) → k < n → lowers m.session.net (place_at m.counters.place m.counters.count k) ≡ false) → ArePassing m n
 are_passing m zero inside closed since looked all = record {
   passed = λ k less. absurd (omega arith);
-  counters = noted_none m.counters inside;
+  counters = noted_none m.counters (λ _. inside);
   net = refl;
   closed = closed;
   work = omega arith;

@@ -1,7 +1,6 @@
 -- A round: a turn that is no end is a look, so the round is the turns of a stretch, and one more where a move lowers.
-use Rattle.std.proofs.Common.{◌≤◌, ◌≡◌, ℕ, ◌+◌, ◌*◌, ◌<◌, Bool, true, false, nat_lt, Some, None, List, length, slice_set, refl, ap, sym, ◌∙◌, subst, arith}
-use Rattle.std.proofs.Common.{if◌then◌else◌}
-use Rattle.std.proofs.lemmas.Bool.Decides.{nat_tests}
+use Rattle.std.proofs.Common.{◌≤◌, ◌≡◌, ℕ, ◌+◌, ◌*◌, ◌<◌, Bool, true, false, Some, None, List, length, slice_set, refl, ap, sym, ◌∙◌, subst, arith}
+use Rattle.std.proofs.Common.{if◌then◌else◌, mul-pos}
 use Rattle.std.proofs.lemmas.List.{length-set}
 use Rattle.transyt_net.specs.Edits.{with_edit}
 use Rattle.transyt_net.specs.Parts.{SameShape}
@@ -10,12 +9,14 @@ use Rattle.transyt_sweep.specs.Climb.{lowers, moved}
 use Rattle.transyt_sweep.specs.Sweeps.{index}
 use Rattle.transyt_session.specs.Session.{SessionValue, credited, standing_for}
 use Rattle.transyt_climb.specs.declared.turn.Turn.{Turn}
-use Rattle.transyt_climb.specs.declared.turn.Turn.TheVariants.{Passed, Took}
+use Rattle.transyt_climb.specs.declared.turn.Turn.TheVariants.{Took, Passed, Local, Budget}
 use Rattle.transyt_climb.specs.Turns.{Counters, Machine, machine, after_answer, answer_of, turned, turns, is_end}
 use Rattle.transyt_climb.specs.Turns.{noted as noted_by}
 use Rattle.transyt_climb.specs.Way.{IsRound}
 use Rattle.transyt_climb.proofs.TurnLaws.{by_look}
 use Rattle.transyt_desks.specs.declared.turns.Round.{Round}
+use Rattle.transyt_desks.specs.declared.batch.Batch.{Batch}
+use Rattle.transyt_desks.specs.declared.split.Split.{Split}
 use Rattle.transyt_desks.specs.declared.results.MadeMove.{MadeMove}
 use Rattle.transyt_desks.specs.declared.stretch.Stretch.{Stretch}
 use Rattle.transyt_desks.specs.Stretches.{IsStretch, net_made, place_at}
@@ -50,6 +51,55 @@ pub turns_one : (m : Machine) → m.counters.since < m.counters.count → m.coun
     → turns_of 1 m ≡ 1
 turns_one m since looked =
     turns_number 1 m since looked ∙ ap (λ n. turns_up_to n m) (room_one m.counters since looked) ∙ up_to_one m
+
+-- a turn that is a whole round
+pub makes_turn : (places : ℕ) (before after : Machine) (last : Turn) → turns_of places before ≡ 1 → last ≡ answer_of before
+    → after ≡ turned before → after.counters.count ≡ move_count after.session.net → after.session.before ≡ None
+    → after.session.work ≤ before.session.work + 8000 → MakesRound places before after (record { turns = 1; last = last })
+makes_turn places before after last one is turned_is kept closed few = record {
+  round = record {
+    some = omega arith;
+    after_is = turned_is;
+    passed = λ k less. absurd (omega (arith, less));
+    last_is = is;
+  };
+  turns = sym one;
+  kept = kept;
+  closed = closed;
+  few = omega (arith, few);
+}
+
+-- an end changes nothing
+end_stays : (a : Turn) (m : Machine) → is_end a ≡ true → m ≡ after_answer a m
+end_stays (Took place edit found) m end = absurd (cc)
+end_stays Passed m end = absurd (cc)
+end_stays Local m end = refl
+end_stays Budget m end = refl
+
+-- and is a round of desks alone
+pub rounds_end : (places : ℕ) (c : Counters) (desks : List SessionValue) (last : Turn) → CanRound c (desk_zero desks)
+    → last ≡ answer_of (machine c (desk_zero desks)) → is_end last ≡ true
+    → RoundsDesks places c desks c desks (record { turns = 1; last = last })
+rounds_end places c desks last ready is end =
+    let m : Machine = machine c (desk_zero desks) in
+    let ends : is_end (answer_of m) ≡ true = ap is_end (sym is) ∙ end in
+    record {
+      made = makes_turn places m m last (ap (λ b. if b then 1 else turns_up_to (room_of places m.counters) m) ends) is
+          (end_stays (answer_of m) m ends) ready.count ready.closed (omega arith);
+      alike = λ are. are;
+      workers = refl;
+    }
+
+-- the desks of a split try some places
+pub some_places : (split : Split) → 0 < split.desks.number * split.each
+some_places split = mul-pos split.desks.some split.some_each
+
+-- so where a climb goes on, its next place is in the list
+pub place_inside : (c : Counters) (places : ℕ) (batch : Batch) → batch.place ≡ c.place → batch.count ≡ c.count
+    → batch.room ≡ room_of places c → 0 < places → c.since < c.count → c.looked < c.budget → c.place < c.count
+place_inside c places batch place count room some since looked =
+    let any : 0 < batch.room = omega (arith, room, some, since, looked) in
+    omega (arith, place, count, batch.place_within any)
 
 module _ (places : ℕ) (m : Machine) (s : Stretch) (ready : CanRound m.counters m.session)
     (place : m.counters.place < m.counters.count) (since : m.counters.since < m.counters.count)
@@ -180,15 +230,3 @@ module _ (desks count : ℕ) (c : Counters) (told : Bool) (is : count ≡ desks)
   places_together again trying each others same these part =
       (λ i. (these ∙ ap (λ n. trying_of n c) same) i * (part ∙ ap (λ n. each_of (trying_of n c) c) same) i)
       ∙ sym (ap (λ b. if b then 1 else trying_of desks c * each_of (trying_of desks c) c) (answer ∙ others))
-
-  -- and there are several
-  never_one : told ≡ false → desks ≡ 1 → ⊥
-  never_one others one = (let never : true ≡ false = ap (λ n. goes_alone n c) (sym one) ∙ answer ∙ others in cc)
-
-  pub several_desks : told ≡ false → 0 < desks → 1 < desks
-  several_desks others some = decide (nat_lt 1 desks) refl
-    where
-      decide : (b : Bool) → nat_lt 1 desks ≡ b → 1 < desks
-      decide true more = grind (arith, nat_tests, more)
-      decide false few =
-          let at_most : desks ≤ 1 = grind (arith, nat_tests, few) in absurd (never_one others (omega (arith, at_most, some)))

@@ -29,9 +29,13 @@ up_to (Some r) n = r + 1
 unfoldable pub turns_up_to : ℕ → Machine → ℕ
 turns_up_to n m = up_to (least (λ r. is_took (answer_of (turns r m))) n) n
 
--- how many places are tried at once: one a worker, and none past the budget or a whole round of the list
+-- how many looks are left to a climber: none past the budget or a whole round of the list
+abbrev pub looks_left : Counters → ℕ
+looks_left c = min (c.budget - c.looked) (c.count - c.since)
+
+-- how many places are tried at once: one a worker, as far as looks are left
 abbrev pub room_of : ℕ → Counters → ℕ
-room_of workers c = min workers (min (c.budget - c.looked) (c.count - c.since))
+room_of workers c = min workers (looks_left c)
 
 -- how many turns a round of so many workers is: one where the first turn is an end
 abbrev pub turns_of : ℕ → Machine → ℕ

@@ -7,27 +7,27 @@ ghost use Rattle.transyt_desks.specs.Desks.{desk_zero, opened_desks, sessions_of
 ghost use Rattle.transyt_desks.specs.Lends.{LendsZero};
 ghost use Rattle.transyt_desks.specs.Stretches.{AreTriesOf, IsStretch, net_made};
 ghost use Rattle.transyt_moves.specs.Moves.{move_count};
-ghost use Rattle.transyt_session.specs.Session.{opened, standing_for};
+ghost use Rattle.transyt_session.specs.Session.{credited, opened, standing_for};
 ghost use Rattle.transyt_sweep.specs.Sweeps.{index};
 ghost use Rattle.transyt_track.specs.Due.{cert_work};
-ghost use Rattle.transyt_desks.specs.Rounds.{places_of, room_of, CanRound, MakesRound, RoundsDesks};
+ghost use Rattle.transyt_desks.specs.Rounds.{places_of, CanRound, MakesRound, RoundsDesks};
 
 use crate::batch::Batch;
 use crate::desk::{Desk, all_stand};
+use crate::desk_count::DeskCount;
 use crate::gate::Gate;
 use crate::policy::{goes_alone, split};
-use crate::rounds::{together, turn_at_zero};
+use crate::rounds::{batch_of, end_of};
 use crate::runner::Runner;
 use crate::split::Split;
 use crate::stretch::Stretch;
 use crate::trying::{stand_all, try_moves_alone, try_moves_of_crew, try_stretch_at_first};
-use crate::turns::{Round, make_turns};
+use crate::turns::{Round, note_passed};
 use std::alloc::{AllocError, Global};
 use std::marker::Model;
-use std::snapshot::Snapshot;
 use std::sync::ledger::Ledger;
 use std::thread::Threads;
-use transyt_climb::Climber;
+use transyt_climb::{Climber, Turn};
 use transyt_session::{Session, Tried};
 use transyt_steps::Steps;
 
@@ -102,12 +102,12 @@ impl Desks {
     }
 
     /// How many desks there are.
-    pub(crate) fn count(&self) -> usize
-        ensures value { result ≡ length self.now }
-        ensures some { 0 < result }
-        ensures few { result ≤ 8 }
+    fn count(&self) -> DeskCount
+        ensures { result.number ≡ length self.now }
     {
-        self.crew.len().max(1)
+        DeskCount {
+            number: self.crew.len().max(1),
+        }
     }
 
     /// Lets every other desk stand for the network of desk 0.
@@ -187,7 +187,7 @@ impl Desks {
 
     /// Tries the moves of a batch at as many of the desks as it names, all at once, and gives them as a stretch, up to the
     /// first that lowers the index. Desk 0 stands for the network with that move made then, with its work as it was.
-    pub(crate) fn try_batch<R: Threads + Sync, G: Gate>(
+    fn try_batch<R: Threads + Sync, G: Gate>(
         &mut self,
         runner: &Runner<'_, R, G>,
         batch: Batch,
@@ -212,29 +212,73 @@ impl Desks {
         tried
     }
 
-    /// The turns of a round at desk 0, as `make_turns` makes them.
-    pub(crate) fn make_turns(
-        &mut self,
-        climber: &mut Climber,
-        tried: Stretch,
-        places: u32,
-        before: &Snapshot<Session>,
-    ) -> Round
-        requires ready { CanRound climber.old before.now.value }
-        requires some { 0 < places }
-        requires place { climber.old.place < climber.old.count }
-        requires since { climber.old.since < climber.old.count }
-        requires looked { climber.old.looked < climber.old.budget }
-        requires tried { IsStretch before.now.value.net climber.old.place climber.old.count
-            (room_of places climber.old) tried }
-        requires session { desk_zero self.old
-            ≡ standing_for (net_made tried.made before.now.value.net) before.now.value }
-        ensures made { MakesRound places (machine climber.old before.now.value)
-            (machine climber.new (desk_zero self.new)) result }
-        ensures net { (desk_zero self.new).net ≡ (desk_zero self.old).net }
-        ensures others { self.new ≡ with_zero self.old (desk_zero self.new) }
+    /// Adds to the work of desk 0.
+    fn credit(&mut self, work: u64)
+        requires room { (desk_zero self.old).work + work ≤ 2 ^ 63 }
+        ensures { self.new ≡ with_zero self.old (credited work (desk_zero self.old)) }
     {
-        make_turns(climber, &mut self.zero, tried, places, before)
+        self.zero.credit(work);
+    }
+
+    /// A round of one turn at desk 0, which passes the gate. The other desks stay as they are.
+    fn turn_at_zero<G: Gate, L: Ledger>(
+        &mut self,
+        gate: &G,
+        climber: &mut Climber,
+        steps: &mut Steps<L>,
+    ) -> Round
+        requires ready { CanRound climber.old (desk_zero self.old) }
+        ensures made { RoundsDesks 1 climber.old self.old climber.new self.new result }
+        ensures steps { steps.new + (desk_zero self.old).work
+            ≡ steps.old + (desk_zero self.new).work }
+    {
+        if let Some(last) = end_of(climber) {
+            return Round { turns: 1, last };
+        }
+        gate.enter(0);
+        self.in_step = 0;
+        let last = climber.turn(&mut self.zero, steps);
+        gate.leave(0);
+        Round { turns: 1, last }
+    }
+
+    /// A round in which the desks of a split try the moves that it gives each of them, or the end of the climb.
+    fn together<R: Threads + Sync, G: Gate>(
+        &mut self,
+        runner: &Runner<'_, R, G>,
+        split: Split,
+        climber: &mut Climber,
+    ) -> Round
+        requires within { split.desks.number ≤ length self.old }
+        requires alike { AreAlike self.old }
+        requires ready { CanRound climber.old (desk_zero self.old) }
+        ensures { RoundsDesks (split.desks.number * split.each) climber.old self.old
+            climber.new self.new result }
+    {
+        if let Some(last) = end_of(climber) {
+            return Round { turns: 1, last };
+        }
+        let batch = batch_of(climber, split, self.zero.index());
+        let tried = self.try_batch(runner, batch);
+        note_passed(climber, tried.passed);
+        self.credit(tried.work);
+        let Some(made) = tried.made else {
+            return Round {
+                turns: tried.passed,
+                last: Turn::Passed,
+            };
+        };
+        let place = climber.place();
+        climber.note(true);
+        self.credit(made.work);
+        Round {
+            turns: tried.passed + 1,
+            last: Turn::Took {
+                place,
+                edit: made.edit,
+                index: made.index,
+            },
+        }
     }
 
     /// A round: the next moves of the list are tried at once, one at each desk, and the first of them that lowers the
@@ -259,14 +303,14 @@ impl Desks {
         ensures steps { length self.old ≡ 1
             → steps.new + (desk_zero self.old).work ≡ steps.old + (desk_zero self.new).work }
     {
-        if self.count() == 1 {
-            return turn_at_zero(gate, self, climber, steps);
+        if self.count().number == 1 {
+            return self.turn_at_zero(gate, climber, steps);
         }
         let split = Split {
             desks: self.count(),
             each: 1,
         };
-        let round = together(&Runner { rt, gate }, self, split, climber, steps);
+        let round = self.together(&Runner { rt, gate }, split, climber);
         self.follow_all(rt);
         round
     }
@@ -296,10 +340,10 @@ impl Desks {
             → steps.new + (desk_zero self.old).work ≡ steps.old + (desk_zero self.new).work }
     {
         if goes_alone(self.count(), climber) {
-            return turn_at_zero(gate, self, climber, steps);
+            return self.turn_at_zero(gate, climber, steps);
         }
         let split = split(self.count(), climber);
-        together(&Runner { rt, gate }, self, split, climber, steps)
+        self.together(&Runner { rt, gate }, split, climber)
     }
 }
 

@@ -23,10 +23,10 @@
 //!   come to it in turn (`find`). It makes the first that brings the index below desk 0's, and tries no more. The
 //!   caller makes all threads itself before it tries as the first of the crew. What they found is read in the list's
 //!   order, up to the first move that was made (`first_made`), and desk 0 trades networks with the desk that made it
-//!   (`Session::trade`). Then the turns are counted (`make_turns`): those that pass, and the step.
+//!   (`Session::trade`). Then the turns are counted (`together`): those that pass, and the step.
 //! - `proofs/CrewLaws` has what the first of a crew share with all of it, and `proofs/BatchLaws` what those come to
 //!   that have tried moves. `try_moves` hands on the results of consecutive moves as they are, and makes none.
-//!   `policy` says when desks try together, how many of them (`Split`), and how many places each. A `Gate` may say
+//!   `policy` says when desks try together, how many of them, and how many places each (`Split`). A `Gate` may say
 //!   how many desks it lets in at once; the program's lets in as many as there are processors (`HostGate` of
 //!   `transyt`).
 #![tactic(auto)]
@@ -34,6 +34,7 @@
 mod batch;
 mod climbing;
 mod desk;
+mod desk_count;
 mod desks;
 mod equal;
 mod gate;

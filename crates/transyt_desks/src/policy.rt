@@ -1,8 +1,9 @@
 //! When several desks try together, and how many places each of them tries.
 
-ghost use Rattle.std.specs.Prelude.{◌≡◌, ◌<◌, ◌≤◌};
+ghost use Rattle.std.specs.Prelude.{◌≡◌, ◌<◌, ◌≤◌, false};
 ghost use Rattle.transyt_desks.specs.Rounds.{each_of, goes_alone, is_early, least_of, trying_of};
 
+use crate::desk_count::DeskCount;
 use crate::split::Split;
 use transyt_climb::Climber;
 
@@ -29,20 +30,18 @@ pub(crate) const PLACES_FOR_ONE: u32 = 2;
 pub(crate) const MOST_PLACES: u32 = 32;
 
 /// Whether a climb is early for so many desks that try.
-fn is_early(trying: usize, climber: &Climber) -> bool
-    requires few { trying ≤ 8 }
-    ensures value { result ≡ is_early trying climber.now }
+fn is_early(trying: DeskCount, climber: &Climber) -> bool
+    ensures value { result ≡ is_early trying.number climber.now }
 {
-    u64::from(climber.looked()) * (trying as u64) < LISTS_EARLY * u64::from(climber.count())
+    u64::from(climber.looked()) * (trying.number as u64) < LISTS_EARLY * u64::from(climber.count())
 }
 
 /// Whether desk 0 of so many goes on alone: where there is no other, and early in a climb for some places after a step.
-pub(crate) fn goes_alone(desks: usize, climber: &Climber) -> bool
-    requires some { 0 < desks }
-    requires few { desks ≤ 8 }
-    ensures value { result ≡ goes_alone desks climber.now }
+pub(crate) fn goes_alone(desks: DeskCount, climber: &Climber) -> bool
+    ensures value { result ≡ goes_alone desks.number climber.now }
+    ensures several { result ≡ false → 1 < desks.number }
 {
-    if desks == 1 {
+    if desks.number == 1 {
         return true;
     }
     let trying = trying(desks, climber);
@@ -50,50 +49,47 @@ pub(crate) fn goes_alone(desks: usize, climber: &Climber) -> bool
 }
 
 /// How many of so many desks try: a few soon after a step, and then all.
-fn trying(desks: usize, climber: &Climber) -> usize
-    requires some { 0 < desks }
-    ensures value { result ≡ trying_of desks climber.now }
-    ensures some { 0 < result }
-    ensures within { result ≤ desks }
+fn trying(desks: DeskCount, climber: &Climber) -> DeskCount
+    ensures value { result.number ≡ trying_of desks.number climber.now }
+    ensures within { result.number ≤ desks.number }
+    ensures several { 1 < desks.number → 1 < result.number }
 {
     if climber.since() < PLACES_SOON {
-        return desks.min(DESKS_SOON);
+        return DeskCount {
+            number: desks.number.min(DESKS_SOON),
+        };
     }
     desks
 }
 
 /// How many places each of so many desks tries at least.
-fn least(desks: usize, climber: &Climber) -> u32
-    requires some { 0 < desks }
-    requires few { desks ≤ 8 }
-    ensures value { result ≡ least_of desks climber.now }
+fn least(desks: DeskCount, climber: &Climber) -> u32
+    ensures value { result ≡ least_of desks.number climber.now }
     ensures some { 0 < result }
 {
     if is_early(desks, climber) {
         return 1;
     }
-    PLACES_LATE.div_ceil(desks as u32)
+    PLACES_LATE.div_ceil(desks.number as u32)
 }
 
 /// How many places each of so many desks tries.
-fn each(desks: usize, climber: &Climber) -> u32
-    requires some { 0 < desks }
-    requires few { desks ≤ 8 }
-    ensures value { result ≡ each_of desks climber.now }
+fn each(desks: DeskCount, climber: &Climber) -> u32
+    ensures value { result ≡ each_of desks.number climber.now }
     ensures some { 0 < result }
     ensures few { result ≤ 64 }
 {
-    let places = climber.since() / (PLACES_FOR_ONE * desks as u32);
+    let places = climber.since() / (PLACES_FOR_ONE * desks.number as u32);
     places.max(least(desks, climber)).min(MOST_PLACES)
 }
 
-/// Which of so many desks try, and how many places each of them.
-pub(crate) fn split(desks: usize, climber: &Climber) -> Split
-    requires some { 0 < desks }
-    requires few { desks ≤ 8 }
-    ensures desks { result.desks ≡ trying_of desks climber.now }
-    ensures each { result.each ≡ each_of (trying_of desks climber.now) climber.now }
-    ensures within { result.desks ≤ desks }
+/// Which of several desks try, and how many places each of them.
+pub(crate) fn split(desks: DeskCount, climber: &Climber) -> Split
+    requires several { 1 < desks.number }
+    ensures desks { result.desks.number ≡ trying_of desks.number climber.now }
+    ensures each { result.each
+        ≡ each_of (trying_of desks.number climber.now) climber.now }
+    ensures within { result.desks.number ≤ desks.number }
 {
     let trying = trying(desks, climber);
     Split {

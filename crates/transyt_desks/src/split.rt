@@ -1,16 +1,28 @@
 //! Which desks try in a round, and how many places.
 
-ghost use Rattle.std.specs.Prelude.{◌<◌, ◌≤◌};
+ghost use Rattle.std.specs.Prelude.{◌≡◌, ◌*◌, ◌<◌, ◌≤◌};
 
-/// So many desks try so many places each: one to eight desks, and 1 to 64 places.
+use crate::desk_count::DeskCount;
+
+/// How the next places of a list are shared between several desks: so many desks try 1 to 64 places each.
 #[derive(Clone, Copy)]
 pub(crate) struct Split {
     /// How many desks try.
-    pub(crate) desks: usize,
+    pub(crate) desks: DeskCount,
     /// How many places each of them tries.
     pub(crate) each: u32,
-    ghost some: { 0 < desks },
-    ghost few: { desks ≤ 8 },
+    ghost several: { 1 < desks.number },
     ghost some_each: { 0 < each },
     ghost few_each: { each ≤ 64 },
+}
+
+impl Split {
+    /// How many places all of them try.
+    pub(crate) fn places(self) -> u32
+        ensures value { result ≡ self.desks.number * self.each }
+        ensures some { 0 < result }
+        ensures most { result ≤ 64 * self.desks.number }
+    {
+        self.desks.number as u32 * self.each
+    }
 }

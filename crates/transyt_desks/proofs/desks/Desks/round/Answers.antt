@@ -14,15 +14,15 @@ follow_all-requires-clause-alike g c κs within =
 pub returns-then-count-eq1-clause-made : goal.returns-then-count-eq1-clause-made
 returns-then-count-eq1-clause-made g c =
     subst (λ n. MakesRound n (machine c.args.climber.now (desk_zero c.args.self.now))
-    (machine c.turn_at_zero.new.climber (desk_zero c.turn_at_zero.new.desks)) c.turn_at_zero.result)
-    (sym c.if-count-eq1.true ∙ c.count.ensures.value) c.turn_at_zero.ensures.made.made
+    (machine c.turn_at_zero.new.climber (desk_zero c.turn_at_zero.new.self)) c.turn_at_zero.result)
+    (sym c.if-count-eq1.true ∙ c.count.ensures) c.turn_at_zero.ensures.made.made
 
 pub returns-clause-made : goal.returns-clause-made
 returns-clause-made g c =
-    let one : c.count-2.result * 1 ≡ length c.args.self.now = omega (arith, c.count-2.ensures.value) in
+    let one : c.count-2.result.number * 1 ≡ length c.args.self.now = omega (arith, c.count-2.ensures) in
     subst (λ n. MakesRound n (machine c.args.climber.now (desk_zero c.args.self.now))
     (machine c.together-round.new.climber (desk_zero c.follow_all.new.self)) c.together-round.result) one
-    (subst (λ (s : SessionValue). MakesRound (c.count-2.result * 1) (machine c.args.climber.now (desk_zero c.args.self.now))
+    (subst (λ (s : SessionValue). MakesRound (c.count-2.result.number * 1) (machine c.args.climber.now (desk_zero c.args.self.now))
     (machine c.together-round.new.climber s) c.together-round.result) (sym c.follow_all.ensures.zero) c.together-round.ensures.made)
 
 pub returns-clause-workers : goal.returns-clause-workers
