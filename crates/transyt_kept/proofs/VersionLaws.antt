@@ -2,6 +2,7 @@
 use Rattle.std.proofs.Common.{◌≡◌, ℕ, zero, suc, ◌+◌, ◌*◌, ◌<◌, Bool, true, false, not, List, [], ◌∷◌, length, set, get_or}
 use Rattle.std.proofs.Common.{replicate, refl, ap, sym, ◌∙◌, arith, if◌then◌else◌}
 use Rattle.std.proofs.lemmas.List.{length-set}
+use mir.Val.{bool_byte}
 use Rattle.transyt_kept.specs.Versions.{VersionsValue, slot, bit, shown, versions_of, AreVersions}
 
 -- where a version stands, as a number
@@ -9,6 +10,11 @@ pub slot_is : (p : ℕ) (b : Bool) → slot p b ≡ 2 * p + (if b then 1 else 0)
 slot_is zero true = refl
 slot_is zero false = refl
 slot_is (suc p) b = let before = slot_is p b in omega (arith, before)
+
+-- by its bit as a number
+pub slot_byte : (p : ℕ) (b : Bool) → 2 * p + bool_byte b ≡ slot p b
+slot_byte p true = sym (slot_is p true)
+slot_byte p false = sym (slot_is p false)
 
 -- it stands among them
 pub slot_inside : (p n : ℕ) (b : Bool) → p < n → slot p b < 2 * n

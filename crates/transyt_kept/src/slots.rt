@@ -26,14 +26,6 @@ impl Model for Slots {
     ghost invariant = { λ s. AreSlots (record { now = s.current.items; mark = s.of_mark.items }) };
 }
 
-/// Where a version of a row stands: the second, or the first.
-fn slot(place: usize, second: bool) -> usize
-    requires { place < 2 ^ 32 }
-    ensures { result ≡ slot place second }
-{
-    if second { 2 * place + 1 } else { 2 * place }
-}
-
 impl Slots {
     /// Of each row the first version is the row now, and that of the mark.
     pub(crate) fn open(alloc: Global, count: u32) -> Result<Slots, AllocError>
@@ -45,14 +37,17 @@ impl Slots {
     }
 
     /// Where a row stands now.
+    #[tactic(auto, using(crate::proofs::VersionLaws::slot_byte))]
     pub(crate) fn current(&self, place: usize) -> usize
         requires { place < length self.now.now }
         ensures { result ≡ slot place (bit self.now.now place) }
     {
-        slot(place, self.current[place])
+        let second = self.current[place];
+        2 * place + second as usize
     }
 
     /// Where a row stands that may be written, since it isn't that of the mark: it is the row now from here on.
+    #[tactic(auto, using(crate::proofs::VersionLaws::slot_byte))]
     pub(crate) fn other(&mut self, place: usize) -> usize
         requires { place < length self.old.now }
         ensures slot { result ≡ slot place (not (bit self.old.mark place)) }
@@ -61,7 +56,7 @@ impl Slots {
     {
         let second = !self.of_mark[place];
         self.current[place] = second;
-        slot(place, second)
+        2 * place + second as usize
     }
 
     /// The mark stands for the rows now.
