@@ -1,9 +1,10 @@
 -- The lines of consecutive places, and the session after them.
 use Rattle.std.proofs.Common.{◌≡◌, ℕ, zero, suc, ◌+◌, ◌-◌, ◌<◌, ◌≤◌, List, ◌∷◌, ◌++◌, Option, Result, Ok, Err, OnOk}
-use Rattle.std.proofs.Common.{◌*◌, length, refl, sym, ◌∙◌, ap, arith, append_assoc, flat_map}
+use Rattle.std.proofs.Common.{◌*◌, length, refl, sym, ◌∙◌, ap, arith, append_assoc, flat_map, subst}
 use Rattle.std.proofs.lemmas.Grind.{flat_map-append}
 use Rattle.std.specs.List.{range_with_len}
 use Rattle.std.specs.Result.{IsErr}
+use Rattle.transyt_io.specs.Streams.{Adds}
 use Rattle.transyt_io.proofs.Told.{adds_both}
 use Rattle.transyt_net.specs.Parts.{Network}
 use Rattle.transyt_moves.specs.Moves.{move, move_count}
@@ -61,12 +62,22 @@ batch_printed net from count next a b c is before batch = record {
   later = omega (arith, before.later, batch.cause.later);
 }
 
+-- a remark after it changes nothing that is written
+pub remarked : {a b c : Option (List ℕ)} {f g h : ℕ} {text : List ℕ} → Printed a b f g text → c ≡ b → h ≡ g
+    → Printed a c f h text
+remarked {a} {text = text} so written faults = record {
+  adds = subst (λ (held : Option (List ℕ)). Adds a held text) (sym written) so.adds;
+  later = omega (arith, so.later, faults);
+}
+
 -- the lines of a batch broke off
-pub batch_broken : {T E : Type 0} {e : E} (r : Result T E) (v : T) (net : Network) (from count places : ℕ)
+pub batch_broken : {T U E : Type 0} {e : E} (r : Result T E) (v : T) (net : Network) (from count places : ℕ)
     (a b c : Option (List ℕ)) {f g h : ℕ} → IsErr r → places ≡ move_count net → from + count ≤ places
-    → Printed a b f g (places_text net 0 from) → Prints {T = T} {E = E} b c g h (Err e) (places_text net from count)
+    → Printed a b f g (places_text net 0 from) → Prints {T = U} {E = E} b c g h (Err e) (places_text net from count)
     → Prints {T = T} {E = E} a c f h r (cert_text net)
-batch_broken {T} {E} {e} r v net from count places a b c failed all inside before batch =
+batch_broken {T} {U} {E} {e} r v net from count places a b c {g = g} {h = h} failed all inside before batch =
+    let broken : Prints {T = T} {E = E} b c g h (Err e) (places_text net from count) =
+    record { ok = tt; err = batch.err; cause = record { later = batch.cause.later; failed = batch.cause.failed } } in
     let done = places_text net 0 from in
     let lines = places_text net from count in
     let more = places_text net (from + count) (move_count net - (from + count)) in
@@ -75,7 +86,7 @@ batch_broken {T} {E} {e} r v net from count places a b c failed all inside befor
     places_both net 0 (from + count) (move_count net - (from + count)) (move_count net) (from + count) (omega arith) (omega arith)
     ∙ ap (λ (l : List ℕ). l ++ more) (places_both net 0 from count (from + count) from refl (omega arith)) in
     prints_same a c r _ _
-    (prints_front r (done ++ lines) (more ++ last) failed (prints_both (Err e) done lines (whole v done before) batch))
+    (prints_front r (done ++ lines) (more ++ last) failed (prints_both (Err e) done lines (whole v done before) broken))
     (sym (text_by_place net ∙ ap (λ (l : List ℕ). l ++ last) text ∙ append_assoc (done ++ lines) more last))
 
 -- all lines are written, and then the last

@@ -10,6 +10,7 @@ ghost use Rattle.transyt_line_answers.specs.Commands.{after_answer};
 ghost use Rattle.transyt_desks.specs.Stretches.{AreTriesOf, work_found};
 ghost use Rattle.transyt_reporter.specs.Conditions.{places_text, places_work, AreIdle, LeavesReady};
 
+use crate::remarks::{Certified, remark_certified};
 use crate::workers::AnswerWriter;
 use std::sync::ledger::Ledger;
 use std::thread::Threads;
@@ -55,6 +56,19 @@ fn work_of_all(session: &Session, from: u32, tries: &[Tried]) -> u64
     work
 }
 
+/// How many tries have a lower index than this one.
+fn count_lower(index: u128, tries: &[Tried]) -> u32 {
+    let mut lower: u32 = 0;
+    for tried in tries {
+        if let Tried::Index { index: other, .. } = *tried
+            && other < index
+        {
+            lower = lower.saturating_add(1);
+        }
+    }
+    lower
+}
+
 /// Writes the lines of consecutive places whose moves were tried.
 fn write_places<K: Sink>(
     session: &Session,
@@ -75,14 +89,15 @@ fn write_places<K: Sink>(
     Ok(())
 }
 
-/// Tries the places of a batch at once, adds their work, and then writes their lines.
+/// Tries the places of a batch at once, adds their work, and then writes their lines. Returns how many of them have a
+/// lower index.
 fn certify_batch<R: Threads + Sync, G: Gate, K: Sink, L: Ledger>(
     writer: &mut AnswerWriter<'_, R, G>,
     desks: &mut Desks,
     batch: Batch,
     sink: &mut K,
     steps: &mut Steps<L>,
-) -> Result<(), Failed>
+) -> Result<u32, Failed>
     requires alike { AreAlike desks.old }
     requires closed { (desk_zero desks.old).before ≡ None }
     requires places { batch.from + batch.count ≤ move_count (desk_zero desks.old).net }
@@ -107,7 +122,8 @@ fn certify_batch<R: Threads + Sync, G: Gate, K: Sink, L: Ledger>(
     desks.try_moves(workers.rt, workers.gate, batch.from, tries, steps);
     let work = work_of_all(desks.session(), batch.from, tries);
     desks.session_mut().credit(work);
-    write_places(desks.session(), batch.from, tries, &mut writer.line, sink)
+    write_places(desks.session(), batch.from, tries, &mut writer.line, sink)?;
+    Ok(count_lower(desks.session().index(), tries))
 }
 
 /// Writes the certificate of the network now, a batch of places after another, and adds its work. On Failed some first
@@ -130,10 +146,18 @@ pub(crate) fn certify<R: Threads + Sync, G: Gate, K: Sink, L: Ledger>(
 {
     let places = move_count(desks.session().net());
     let mut from = 0;
+    let mut lower: u32 = 0;
     while from < places {
         let count = (places - from).min(32 * writer.workers.count);
-        certify_batch(writer, desks, Batch { from, count }, sink, steps)?;
+        let more = certify_batch(writer, desks, Batch { from, count }, sink, steps)?;
         from += count;
+        lower = lower.saturating_add(more);
+        let certified = Certified {
+            places,
+            done: from,
+            lower,
+        };
+        remark_certified(certified, count, sink);
     }
     write_cert_end(places, desks.session(), &mut writer.line, sink)
 }

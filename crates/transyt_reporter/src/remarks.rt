@@ -4,7 +4,9 @@ ghost use Rattle.std.specs.Prelude.{◌≡◌};
 use transyt_deck::CardReader;
 use transyt_io::Sink;
 use transyt_line_answers::Answer;
-use transyt_sentences::{Site, on_budget, on_card, on_command, on_refused_commands};
+use transyt_sentences::{
+    Site, on_budget, on_card, on_certificate, on_command, on_refused_commands,
+};
 use transyt_session::Session;
 use transyt_syntax::Code;
 
@@ -53,6 +55,48 @@ pub(crate) fn remark_end<K: Sink>(is_local: bool, looked: u32, sink: &mut K)
 {
     if !is_local {
         sink.remark(on_budget(looked).bytes());
+    }
+}
+
+/// A certificate of more places than these tells how far it is.
+const FEW_PLACES: u32 = 5000;
+
+/// How many remarks a certificate has at most.
+const MOST_REMARKS: u32 = 50;
+
+/// How far a certificate is.
+#[derive(Clone, Copy)]
+pub(crate) struct Certified {
+    /// How many places it has.
+    pub(crate) places: u32,
+    /// How many of them are written.
+    pub(crate) done: u32,
+    /// How many of those written have a lower index.
+    pub(crate) lower: u32,
+}
+
+impl Certified {
+    /// Whether these places more reached a fiftieth part of all, and not the last.
+    fn is_due(self, more: u32) -> bool {
+        let part = self.places.div_ceil(MOST_REMARKS).max(1);
+        self.places > FEW_PLACES
+            && self.done < self.places
+            && self.done / part > self.done.saturating_sub(more) / part
+    }
+}
+
+/// Tells how far a long certificate is, now that these places more are written.
+pub(crate) fn remark_certified<K: Sink>(certified: Certified, more: u32, sink: &mut K)
+    ensures written { K.written sink.new ≡ K.written sink.old }
+    ensures faults { K.faults sink.new ≡ K.faults sink.old }
+{
+    if certified.is_due(more) {
+        let Certified {
+            places,
+            done,
+            lower,
+        } = certified;
+        sink.remark(on_certificate(done, places, lower).bytes());
     }
 }
 

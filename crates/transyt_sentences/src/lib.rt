@@ -16,6 +16,6 @@ mod site;
 
 pub use cards::on_card;
 pub use commands::on_command;
-pub use notes::{on_audit, on_budget, on_cycle_times, on_refused_commands, on_row};
+pub use notes::{on_audit, on_budget, on_certificate, on_cycle_times, on_refused_commands, on_row};
 pub use sentence::Sentence;
 pub use site::Site;

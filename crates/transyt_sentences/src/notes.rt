@@ -47,6 +47,16 @@ pub fn on_budget(budget: u32) -> Sentence {
     sentence
 }
 
+/// A certificate is written up to a place: of how many, and how many of those before it have a lower index.
+pub fn on_certificate(done: u32, places: u32, lower: u32) -> Sentence {
+    let mut sentence = Sentence::new();
+    sentence.say_form(
+        "certificate: place # of #, # lower so far",
+        &[done, places, lower],
+    );
+    sentence
+}
+
 /// A run ended in which this many commands were refused.
 pub fn on_refused_commands(count: u32) -> Sentence {
     let mut sentence = Sentence::new();

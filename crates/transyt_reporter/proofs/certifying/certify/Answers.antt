@@ -9,7 +9,7 @@ use Rattle.transyt_io.proofs.LoopLaws.{printed_nothing}
 use Rattle.transyt_io.proofs.PrintLaws.{prints_same}
 use Rattle.transyt_audit.specs.Certificate.{last_text}
 use Rattle.transyt_reporter.specs.Conditions.{places_text}
-use Rattle.transyt_reporter.proofs.CertifyLaws.{batch_printed, batch_broken, lines_ended}
+use Rattle.transyt_reporter.proofs.CertifyLaws.{batch_printed, batch_broken, lines_ended, remarked}
 use Rattle.transyt_reporter.proofs.CertifyLaws.{certified_none, certified_more, certified_state, certified_leaves}
 use Rattle.transyt_reporter.proofs.certifying.certify.Goals as goal
 
@@ -30,18 +30,19 @@ loop-from-preserved g c =
     let same = ap (λ (s : SessionValue). s.net) so.certified.state in
     let from = c.loop-from.from in
     let count = c.min-count.result in
-    let told = c.in_ok-certify_batch.ensures in
+    let told = c.in_ok-more.ensures in
     record {
-      printed = batch_printed net from count (from + count) _ _ _ refl so.printed
-          (prints_same _ _ _ _ _ told.prints (ap (λ (n : Network). places_text n from count) same));
+      printed = remarked (batch_printed net from count (from + count) _ _ _ refl so.printed
+          (prints_same _ _ _ _ _ told.prints (ap (λ (n : Network). places_text n from count) same)))
+          c.remark_certified.ensures.written c.remark_certified.ensures.faults;
       certified = certified_more so.certified count _ told.state told.few told.alike told.workers told.steps;
       inside = omega arith;
       workers = told.writer ∙ so.workers;
     }
 
 -- the lines of a batch broke off
-pub returns-in_err-certify_batch-clause-prints : goal.returns-in_err-certify_batch-clause-prints
-returns-in_err-certify_batch-clause-prints g c =
+pub returns-in_err-more-clause-prints : goal.returns-in_err-more-clause-prints
+returns-in_err-more-clause-prints g c =
     let so = c.loop-from.invariant in
     let net = (desk_zero c.args.desks.now).net in
     let same = ap (λ (s : SessionValue). s.net) so.certified.state in
@@ -49,14 +50,14 @@ returns-in_err-certify_batch-clause-prints g c =
     let count = c.min-count.result in
     let all = c.move_count-places.ensures.count ∙ ap move_count (c.net.ensures ∙ ap (λ (s : SessionValue). s.net) c.session.ensures) in
     batch_broken _ (tt {0}) net from count (move_count net) _ _ _ c.from_residual.ensures.0 refl (omega (arith, all)) so.printed
-    (prints_same _ _ _ _ _ c.in_err-certify_batch.ensures.prints (ap (λ (n : Network). places_text n from count) same))
+    (prints_same _ _ _ _ _ c.in_err-more.ensures.prints (ap (λ (n : Network). places_text n from count) same))
 
 -- the desks then
-pub returns-in_err-certify_batch-clause-leaves : goal.returns-in_err-certify_batch-clause-leaves
-returns-in_err-certify_batch-clause-leaves g c =
+pub returns-in_err-more-clause-leaves : goal.returns-in_err-more-clause-leaves
+returns-in_err-more-clause-leaves g c =
     let places = c.move_count-places.ensures in
     let all = places.count ∙ ap move_count (c.net.ensures ∙ ap (λ (s : SessionValue). s.net) c.session.ensures) in
-    let told = c.in_err-certify_batch.ensures in
+    let told = c.in_err-more.ensures in
     certified_leaves
     (certified_more c.loop-from.invariant.certified c.min-count.result _ told.state told.few told.alike told.workers told.steps)
     c.requires.idle (omega (arith, all)) (omega (arith, all, places))
