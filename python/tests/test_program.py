@@ -1,8 +1,10 @@
 """The program: where it is found, and words that take their input whole."""
 
 import os
+import re
 import signal
 import unittest
+from typing import List, Tuple
 from unittest import mock
 
 import support
@@ -82,6 +84,44 @@ class Decks(unittest.TestCase):
             self.assertEqual(str(deck), text)
             with Session(deck, 1, PROGRAM) as town:
                 self.assertEqual(town.deck(), deck)
+
+
+@needs_program
+class LongCertificates(unittest.TestCase):
+    """CERT tells how far it is, where it has more than 5,000 places."""
+
+    def certificate(self, sizes: int, workers: int) -> Tuple[List[str], List[str]]:
+        """The certificate's lines, of a town of 64 with so many sizes of moves, and what standard error was told."""
+        town = Program(PROGRAM).answer(["make", 1, 64])
+        steps = "STEPS 2000 " + " ".join(str(size) for size in range(1, sizes + 1))
+        cards = [steps if line.startswith("STEPS ") else line for line in town]
+        answer = Program(PROGRAM).ask(["run", workers], "".join(line + "\n" for line in [*cards, "CERT"]))
+        return answer.text.splitlines()[1:], list(answer.messages)
+
+    def test_how_far_a_long_one_is(self) -> None:
+        for workers in (1, 3):
+            lines, told = self.certificate(14, workers)
+            moves, last = lines[:-1], lines[-1].split(" ")
+            self.assertEqual(last[:2], ["CERT", str(len(moves))])
+            self.assertGreater(len(moves), 5000)
+            index = int(last[-1])
+            places = []
+            for sentence in told:
+                found = re.fullmatch(r"certificate: place (\d+) of (\d+), (\d+) lower so far", sentence)
+                assert found, sentence
+                done, count, lower = (int(number) for number in found.groups())
+                ends = [move.split(" ")[-1] for move in moves[:done]]
+                self.assertEqual(count, len(moves))
+                self.assertEqual(lower, sum(end != "BARRED" and int(end) < index for end in ends))
+                places.append(done)
+            self.assertEqual(places, sorted(set(places)))
+            self.assertLess(places[-1], len(moves))
+            self.assertTrue(40 <= len(places) <= 50, places)
+
+    def test_a_short_one_tells_nothing(self) -> None:
+        lines, told = self.certificate(12, 2)
+        self.assertTrue(4000 < len(lines) <= 5001)
+        self.assertEqual(told, [])
 
 
 @needs_program
