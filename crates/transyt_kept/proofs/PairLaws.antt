@@ -1,11 +1,10 @@
 -- The place of a link's row at a sweep.
-use Rattle.std.proofs.Common.{◌≡◌, ◌≢◌, ℕ, ◌+◌, ◌*◌, ◌^◌, ◌<◌, ◌≤◌, List, [], length, All, ap, arith, ◌⊎◌, inl, inr}
+use Rattle.std.proofs.Common.{◌≡◌, ◌≢◌, ℕ, ◌+◌, ◌*◌, ◌<◌, ◌≤◌, List, [], length, ap, arith, ◌⊎◌, inl, inr}
 use Rattle.std.proofs.lemmas.Bool.{cases_lt}
 use Rattle.std.proofs.lemmas.List.{get_or-set_same, get_or-set_other, length-set}
 use Rattle.std.proofs.Math.Nat.{mul-le-mul_right}
 use Rattle.transyt_kept.specs.Cell.{CellValue}
 use Rattle.transyt_kept.specs.Rows.{RowsValue, row, pair_place, out_at, with_out, with_rest, AreRows}
-use Rattle.transyt_kept.proofs.RowLaws.{row_steps}
 
 -- the row of a pair is within the rows
 pub pair_inside : (sweeps links s l : ℕ) → s ≤ sweeps → l < links → s * links + l < (sweeps + 1) * links
@@ -35,15 +34,7 @@ module _ (rows : RowsValue) (kept : AreRows rows) (s l : ℕ) (swept : s ≤ row
     pub out_there : pair_place rows s l < length rows.outs
     out_there = omega (arith, kept.outs.many, pair_there)
 
-    -- departures have a value for each step
-    pub out_steps : length (out_at rows s l) ≡ rows.step_count
-    out_steps = row_steps kept.outs (pair_place rows s l) pair_there
-
-    -- they are small
-    pub out_small : All (λ v. v < 2 ^ 30) (out_at rows s l)
-    out_small = kept.small (pair_place rows s l) [] out_there
-
-    -- and those that were put are there
+    -- departures that were put are there
     pub out_here : (x : List ℕ) → out_at (with_out rows s l x) s l ≡ x
     out_here x = get_or-set_same rows.outs (pair_place rows s l) x [] out_there
 

@@ -1,13 +1,8 @@
 -- Rows of n values each, and one of them written.
-use Rattle.std.proofs.Common.{◌≡◌, ℕ, ◌<◌, List, [], length, set, replicate, ◌∙◌, arith}
+use Rattle.std.proofs.Common.{◌≡◌, ℕ, List, length, set, replicate, ◌∙◌}
 use Rattle.std.proofs.lemmas.List.{length-set, length-replicate}
 use Rattle.std.proofs.lemmas.List.Elements.{All-set, All-replicate}
-use Rattle.transyt_kept.specs.Rows.{row, empty_table, AreSized}
-
--- a row has n values
-pub row_steps : {count n : ℕ} {rows : List (List ℕ)} → AreSized count n rows → (p : ℕ) → p < count
-    → length (row rows p) ≡ n
-row_steps sized p inside = sized.steps p [] (omega (arith, sized.many, inside))
+use Rattle.transyt_kept.specs.Rows.{empty_table, AreSized}
 
 -- with a row of n values written each has n
 pub sized_set : {count n : ℕ} {rows : List (List ℕ)} → AreSized count n rows → (p : ℕ) (x : List ℕ) → length x ≡ n

@@ -1,7 +1,6 @@
 -- A version that is written is shown by the bits that name it, and by no others.
 use Rattle.std.proofs.Common.{◌≡◌, ℕ, zero, suc, ◌+◌, ◌*◌, ◌<◌, Bool, true, false, not, List, [], ◌∷◌, length, set, get_or}
 use Rattle.std.proofs.Common.{replicate, refl, ap, sym, ◌∙◌, arith, if◌then◌else◌}
-use Rattle.std.proofs.lemmas.List.{length-set}
 use mir.Val.{bool_byte}
 use Rattle.transyt_kept.specs.Versions.{VersionsValue, slot, bit, shown, versions_of, AreVersions}
 
@@ -115,11 +114,3 @@ module _ {A : Type 0} where
         let mark = shown_keep slots.mark xs p b x (not_twice (bit slots.mark p)) (omega (arith, has_bits, are.bits))
         ∙ ap (λ (v : VersionsValue A). v.mark) is in
         (λ j. record { now = now j; mark = mark j })
-
--- with one bit and one version written there are as many
-pub versions_set : {A : Type 0} {slots : VersionsValue Bool} {xs : List A} → AreVersions slots xs → (p : ℕ) (b : Bool)
-    (s : ℕ) (x : A) → AreVersions (record slots { now = set slots.now p b }) (set xs s x)
-versions_set {slots = slots} {xs = xs} are p b s x = record {
-  bits = are.bits ∙ sym (length-set slots.now p b);
-  two = length-set xs s x ∙ are.two ∙ ap (λ n. 2 * n) (sym (length-set slots.now p b));
-}

@@ -13,39 +13,21 @@ use Rattle.transyt_kept.proofs.RowLaws.{sized_set, sized_empty}
 
 module _ {link_count : ℕ} {rows mark : RowsValue} {index mark_index : ℕ}
     (kept : AreKept link_count rows mark index mark_index) where
-  -- where other rows are written, and figures stay
-  rows_written : (outs arrivals go queue : List (List ℕ))
-      → AreRows (record rows { outs = outs; arrivals = arrivals; go = go; queue = queue })
-      → AreKept link_count (record rows { outs = outs; arrivals = arrivals; go = go; queue = queue }) mark index mark_index
-  rows_written outs arrivals go queue are = record {
-    rows = are;
-    links = kept.links;
-    index_sum = kept.index_sum;
-    mark_rows = kept.mark_rows;
-    mark_links = kept.mark_links;
-    mark_index_sum = kept.mark_index_sum;
-  }
-
   -- departures are written
   pub out_written : (p : ℕ) (x : List ℕ) → length x ≡ rows.step_count → All (λ v. v < 2 ^ 30) x
       → AreKept link_count (record rows { outs = set rows.outs p x }) mark index mark_index
   out_written p x long small =
       let are = kept.rows in
-      rows_written (set rows.outs p x) rows.arrivals rows.go rows.queue
-      (search (rules, are, sized_set, All-set (λ y. All (λ v. v < 2 ^ 30) y) rows.outs p x small are.small))
+      search (rules, kept, are, sized_set, All-set (λ y. All (λ v. v < 2 ^ 30) y) rows.outs p x small are.small)
 
   -- the arrivals of a link and its queue are
   pub arrivals_written : (l : ℕ) (a q : List ℕ) → length a ≡ rows.step_count → length q ≡ rows.step_count
       → AreKept link_count (record rows { arrivals = set rows.arrivals l a; queue = set rows.queue l q }) mark index mark_index
-  arrivals_written l a q a_long q_long =
-      let are = kept.rows in
-      rows_written rows.outs (set rows.arrivals l a) rows.go (set rows.queue l q) (search (rules, are, sized_set))
+  arrivals_written l a q a_long q_long = search (rules, kept, kept.rows, sized_set)
 
   -- its GO is
   pub go_written : (l : ℕ) (g : List ℕ) → length g ≡ rows.step_count → AreKept link_count (with_go rows l g) mark index mark_index
-  go_written l g long =
-      let are = kept.rows in
-      rows_written rows.outs rows.arrivals (set rows.go l g) rows.queue (search (rules, are, sized_set))
+  go_written l g long = search (rules, kept, kept.rows, sized_set)
 
   -- its figures are, and the index goes by the difference
   pub figures_written : (l : ℕ) (f was : Figures) → l < length rows.figures → AreSmall f
