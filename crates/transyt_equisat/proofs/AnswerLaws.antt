@@ -11,7 +11,7 @@ use Rattle.transyt_net.specs.Valid.{IsValid}
 use Rattle.transyt_equisat.specs.declared.fraction.Fraction.{Fraction}
 use Rattle.transyt_equisat.specs.Degrees.{is_above}
 use Rattle.transyt_equisat.specs.Sharing.{no_demand, asked_of, IsAsked}
-use Rattle.transyt_equisat.specs.Peaks.{greens_of, lost}
+use Rattle.transyt_equisat.specs.Peaks.{greens_of, intergreens}
 use Rattle.transyt_equisat.specs.Balance.{first_green, least_greens, greens_at}
 use Rattle.transyt_equisat.proofs.SettingLaws.{IsSetting, setting_of}
 use Rattle.transyt_equisat.proofs.PeakLaws.{demand_count}
@@ -20,7 +20,7 @@ use Rattle.transyt_equisat.proofs.SharingLaws.{sum_pointwise}
 
 -- the least greens and the intergreens fit into the cycle
 own_room : (net : Network) (n : NodeValue) → IsSetting net n
-    → sum (map (λ (s : Stage). s.least) n.stages) + lost n.stages ≤ net.frame.step_count
+    → sum (map (λ (s : Stage). s.least) n.stages) + intergreens n.stages ≤ net.frame.step_count
 own_room net n setting =
     let count = length-map n.stages (λ (s : Stage). s.least) in
     let less = sum_pointwise (map (λ (s : Stage). s.least) n.stages) (greens_of net.frame.step_count n.stages)

@@ -11,7 +11,7 @@ use Rattle.transyt_net.specs.Parts.{Network}
 use Rattle.transyt_equisat.specs.declared.fraction.Fraction.{Fraction}
 use Rattle.transyt_equisat.specs.declared.demand.Demand.{Demand}
 use Rattle.transyt_equisat.specs.Degrees.{is_above, counts_in, degree}
-use Rattle.transyt_equisat.specs.Sharing.{degree_of, no_demand, asked_of, need_by, green_there, share_there}
+use Rattle.transyt_equisat.specs.Sharing.{degree_of, no_demand, asked_of, need_by_demand, green_by_demand, share_by_demand}
 use Rattle.transyt_equisat.specs.Balance.{first_from, first_green, least_greens, need_at, share_at, no_share}
 use Rattle.transyt_equisat.proofs.SettingLaws.{IsSetting}
 use Rattle.transyt_equisat.proofs.DemandLaws.{IsLower, stage_tested, not_above_lower, below_lower}
@@ -58,13 +58,12 @@ module _ (net : Network) (n : NodeValue) (setting : IsSetting net n) (test : Fra
 
 -- the least green of a stage is that of what it asks
 pub green_asked : (net : Network) (n : NodeValue) (v : Fraction) (k : ℕ) → IsSetting net n → k < length n.stages
-    → first_green net n (λ d. not (is_above d v)) k ≡ green_there (asked_of net n) v k
+    → first_green net n (λ d. not (is_above d v)) k ≡ green_by_demand (asked_of net n) v k
 green_asked net n v k setting inside = first_asked net n setting (λ d. not (is_above d v)) (not_above_lower v) k inside
 
 -- and so is its need
 need_asked : (net : Network) (n : NodeValue) (v : Fraction) (k : ℕ) → IsSetting net n → k < length n.stages
-    → need_at net n v k
-    ≡ need_by net.frame.step_count v (stage_of n.stages k).least (get_or (asked_of net n).demands k no_demand)
+    → need_at net n v k ≡ need_by_demand (asked_of net n) v k
 need_asked net n v k setting inside =
     elim (cases_Bool (nat_eq v.top 0)) [
       | inl none ↦ rw none
@@ -74,16 +73,16 @@ need_asked net n v k setting inside =
 
 -- the least greens of the stages are those of what they ask
 pub greens_asked : (net : Network) (n : NodeValue) (v : Fraction) → IsSetting net n
-    → map (green_there (asked_of net n) v) (range_with_len 0 (length n.stages))
+    → map (green_by_demand (asked_of net n) v) (range_with_len 0 (length n.stages))
     ≡ least_greens net n v
 greens_asked net n v setting =
-    range_same 0 (green_there (asked_of net n) v) (first_green net n (λ d. not (is_above d v)))
+    range_same 0 (green_by_demand (asked_of net n) v) (first_green net n (λ d. not (is_above d v)))
     (length n.stages) (λ k below. sym (green_asked net n v k setting below))
 
 -- and so are their shares
 pub shares_asked : (net : Network) (n : NodeValue) (v : Fraction) (gs : List ℕ) → IsSetting net n
-    → map (share_there (asked_of net n) v gs) (range_with_len 0 (length n.stages))
+    → map (share_by_demand (asked_of net n) v gs) (range_with_len 0 (length n.stages))
     ≡ map (share_at net n v gs) (range_with_len 0 (length n.stages))
 shares_asked net n v gs setting =
-    range_same no_share (share_there (asked_of net n) v gs) (share_at net n v gs) (length n.stages)
+    range_same no_share (share_by_demand (asked_of net n) v gs) (share_at net n v gs) (length n.stages)
     (λ k below. rw (need_asked net n v k setting below))

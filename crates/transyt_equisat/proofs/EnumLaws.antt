@@ -8,7 +8,7 @@ use Rattle.std.proofs.lemmas.List.{length-map, get_or-map}
 use Rattle.std.proofs.lemmas.List.FromFn.{length-range_with_len, get_or-range_with_len}
 use Rattle.transyt_parts.specs.declared.node.Stage.{Stage}
 use Rattle.transyt_parts.specs.Plan.{stage_of}
-use Rattle.transyt_equisat.specs.Peaks.{Fits, lost}
+use Rattle.transyt_equisat.specs.Peaks.{Fits, intergreens}
 use Rattle.transyt_equisat.specs.Balance.{all_greens}
 
 -- all that stand in the joined lists
@@ -78,7 +78,7 @@ fits_listed (s ∷ ss) left [] fits = absurd (let count = fits.count in omega ar
 fits_listed (s ∷ ss) left (e ∷ es) fits =
     let n : ℕ = left + 1 - (s.least + s.intergreen) in
     let low : s.least ≤ e = fits.least 0 (omega arith) in
-    let fills : (e + sum es) + (s.intergreen + lost ss) ≡ left =
+    let fills : (e + sum es) + (s.intergreen + intergreens ss) ≡ left =
     omega (arith, fits.fills, sum_by-cons (λ n. n) e es, sum_by-cons (λ (s : Stage). s.intergreen) s ss) in
     let k : ℕ = e - s.least in
     let inside : k < n = omega arith in

@@ -15,7 +15,7 @@ use Rattle.transyt_equisat.specs.declared.fraction.Fraction.{Fraction}
 use Rattle.transyt_equisat.specs.declared.demand.Demand.{Demand}
 use Rattle.transyt_equisat.specs.Degrees.{counts_in}
 use Rattle.transyt_equisat.specs.Sharing.{heavier, heavier_of, demand_of, degree_of, demands_of, no_demand, asked_of}
-use Rattle.transyt_equisat.specs.Peaks.{Fits, lost}
+use Rattle.transyt_equisat.specs.Peaks.{Fits, intergreens}
 use Rattle.transyt_equisat.specs.Balance.{first_more}
 use Rattle.transyt_equisat.proofs.SettingLaws.{IsSetting}
 use Rattle.transyt_equisat.proofs.DegreeLaws.{degree_falls}
@@ -26,10 +26,10 @@ use Rattle.transyt_equisat.proofs.PeakLaws.{demand_there, StagesPass}
 -- greens with what is left of the cycle given to the first fill it
 pub filled : (steps : ℕ) (stages : List Stage) (es : List ℕ) → length es ≡ length stages → 0 < length stages
     → ((k : ℕ) → k < length stages → (stage_of stages k).least ≤ get_or es k 0)
-    → sum es + lost stages ≤ steps
-    → Fits steps stages (first_more (steps - (sum es + lost stages)) es)
+    → sum es + intergreens stages ≤ steps
+    → Fits steps stages (first_more (steps - (sum es + intergreens stages)) es)
 filled steps stages es count some least room =
-    let left : ℕ = steps - (sum es + lost stages) in
+    let left : ℕ = steps - (sum es + intergreens stages) in
     record {
       count = omega (arith, length-set es 0 (get_or es 0 0 + left));
       least = λ k below. omega (arith, least k below, more_least es 0 left k (omega arith));
@@ -66,13 +66,13 @@ demand_live net n k setting inside =
 -- stage still passes
 pub filled_passes : (net : Network) (n : NodeValue) → IsSetting net n → (test : Fraction → Bool) → IsLower test → (es : List ℕ)
     → length es ≡ length n.stages → ((k : ℕ) → k < length n.stages → (stage_of n.stages k).least ≤ get_or es k 0)
-    → StagesPass test net n es → sum es + lost n.stages ≤ net.frame.step_count
-    → Fits net.frame.step_count n.stages (first_more (net.frame.step_count - (sum es + lost n.stages)) es)
-    × StagesPass test net n (first_more (net.frame.step_count - (sum es + lost n.stages)) es)
+    → StagesPass test net n es → sum es + intergreens n.stages ≤ net.frame.step_count
+    → Fits net.frame.step_count n.stages (first_more (net.frame.step_count - (sum es + intergreens n.stages)) es)
+    × StagesPass test net n (first_more (net.frame.step_count - (sum es + intergreens n.stages)) es)
 filled_passes net n setting test lower es count least pass room = (
   filled net.frame.step_count n.stages es count (omega (arith, setting.stages.0)) least room,
   λ k inside.
       more_passes test lower net.frame.step_count (get_or (asked_of net n).demands k no_demand) es
-      (net.frame.step_count - (sum es + lost n.stages)) k (demand_live net n k setting inside) (omega (arith, setting.stages.0))
+      (net.frame.step_count - (sum es + intergreens n.stages)) k (demand_live net n k setting inside) (omega (arith, setting.stages.0))
       (omega (arith, least k inside, setting.least k inside)) (pass k inside),
 )

@@ -8,7 +8,7 @@ use Rattle.transyt_parts.specs.Plan.{stage_of}
 use Rattle.transyt_net.specs.Parts.{Network}
 use Rattle.transyt_equisat.specs.declared.fraction.Fraction.{Fraction}
 use Rattle.transyt_equisat.specs.Degrees.{is_above, IsSame}
-use Rattle.transyt_equisat.specs.Peaks.{Fits, peak, lost}
+use Rattle.transyt_equisat.specs.Peaks.{Fits, peak, intergreens}
 use Rattle.transyt_equisat.specs.Balance.{first_green, least_greens, greens_at}
 use Rattle.transyt_equisat.specs.Sharing.{asked_of, degree_at, IsUnder, IsLeastPeak}
 use Rattle.transyt_equisat.proofs.SettingLaws.{IsSetting}
@@ -43,7 +43,7 @@ module _ (net : Network) (n : NodeValue) (v : Fraction) (setting : IsSetting net
   least_count = length-map-range_with_len (first_green net n (λ d. not (is_above d v))) 0 (length n.stages)
 
   -- the least greens leave room in the cycle
-  pub least_room : sum (least_greens net n v) + lost n.stages ≤ net.frame.step_count
+  pub least_room : sum (least_greens net n v) + intergreens n.stages ≤ net.frame.step_count
   least_room =
       let (es, fits, under) = peak_is.reached in
       let less = sum_pointwise (least_greens net n v) es (omega (arith, fits.count, least_count))

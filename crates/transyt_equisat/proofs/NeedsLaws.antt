@@ -13,7 +13,7 @@ use Rattle.transyt_equisat.specs.declared.fraction.Fraction.{Fraction}
 use Rattle.transyt_equisat.specs.declared.demand.Demand.{Demand}
 use Rattle.transyt_equisat.specs.Degrees.{is_above, AtMost}
 use Rattle.transyt_equisat.specs.Sharing.{degree_of, no_demand, asked_of, degree_at, IsUnder, IsLeastPeak}
-use Rattle.transyt_equisat.specs.Peaks.{Fits, peak, lost}
+use Rattle.transyt_equisat.specs.Peaks.{Fits, peak, intergreens}
 use Rattle.transyt_equisat.specs.Balance.{first_green, first_more, need_at}
 use Rattle.transyt_equisat.proofs.SettingLaws.{IsSetting}
 use Rattle.transyt_equisat.proofs.FractionLaws.{at_most, at_most-trans}
@@ -74,14 +74,14 @@ module _ (net : Network) (n : NodeValue) (v : Fraction) (setting : IsSetting net
       rw at (first.0, first.2)
 
   -- needs and intergreens don't fit into the cycle
-  pub needs_exceed : net.frame.step_count < sum (needs_of net n v) + lost n.stages
+  pub needs_exceed : net.frame.step_count < sum (needs_of net n v) + intergreens n.stages
   needs_exceed =
       let (es, fits, under) = peak_is.reached in
       let ms : List ℕ = needs_of net n v in
-      elim (cases_lt net.frame.step_count (sum ms + lost n.stages)) [
+      elim (cases_lt net.frame.step_count (sum ms + intergreens n.stages)) [
         | inl more ↦ more
         | inr room ↦ absurd (
-            let gs : List ℕ = first_more (net.frame.step_count - (sum ms + lost n.stages)) ms in
+            let gs : List ℕ = first_more (net.frame.step_count - (sum ms + intergreens n.stages)) ms in
             let (full, below) = filled_passes net n setting (λ d. is_above v d) (below_lower v above) ms
             (length-map-range_with_len (need_at net n v) 0 (length n.stages))
             (λ k inside. (need_parts es k fits under inside).0) (λ k inside. (need_parts es k fits under inside).1) room in

@@ -14,7 +14,7 @@ use Rattle.transyt_parts.specs.declared.node.Stage.{Stage}
 use Rattle.transyt_parts.specs.Made.{bare_stage}
 use Rattle.transyt_parts.specs.Plan.{stage_of, no_stage, length_at, stage_lengths, in_order, has_green, have_greens, plan_fault}
 use Rattle.transyt_net.proofs.WriteLaws.{no_fault}
-use Rattle.transyt_equisat.specs.Peaks.{Fits, lost, greens_of, IsPlanOf}
+use Rattle.transyt_equisat.specs.Peaks.{Fits, intergreens, greens_of, IsPlanOf}
 
 -- the green of the stage at a place
 abbrev pub green_at : ℕ → List Stage → ℕ → ℕ
@@ -47,7 +47,7 @@ green_room steps plan k all inside =
 -- greens and intergreens make up the lengths
 sum_parts : (steps : ℕ) (plan : List Stage) (n : ℕ) → n ≤ length plan
     → ((k : ℕ) → k < length plan → (stage_of plan k).intergreen ≤ length_at steps plan k)
-    → sum (map (green_at steps plan) (range_with_len 0 n)) + lost (take n plan)
+    → sum (map (green_at steps plan) (range_with_len 0 n)) + intergreens (take n plan)
     ≡ sum (map (length_at steps plan) (range_with_len 0 n))
 sum_parts steps plan zero inside room = refl
 sum_parts steps plan (suc n) inside room =
@@ -57,25 +57,25 @@ sum_parts steps plan (suc n) inside room =
     ∙ sum_by-map-range_with_len_more (λ x. x) (green_at steps plan) 0 n n same in
     let lengths = ap (λ m. sum (map (length_at steps plan) (range_with_len 0 m))) next
     ∙ sum_by-map-range_with_len_more (λ x. x) (length_at steps plan) 0 n n same in
-    let gaps = ap (λ m. lost (take m plan)) next ∙ sum_by_more (λ (s : Stage). s.intergreen) plan n no_stage (omega arith) in
+    let gaps = ap (λ m. intergreens (take m plan)) next ∙ sum_by_more (λ (s : Stage). s.intergreen) plan n no_stage (omega arith) in
     omega (arith, greens, lengths, gaps, sum_parts steps plan n (omega arith) room, room n (omega arith))
 
 -- greens and intergreens sum to the lengths
 pub lengths_sum : (steps : ℕ) (plan : List Stage)
     → ((k : ℕ) → k < length plan → (stage_of plan k).intergreen ≤ length_at steps plan k)
-    → sum (greens_of steps plan) + lost plan ≡ sum (stage_lengths steps plan)
+    → sum (greens_of steps plan) + intergreens plan ≡ sum (stage_lengths steps plan)
 lengths_sum steps plan room =
-    ap (λ ss. sum (greens_of steps plan) + lost ss) (sym (take_all (length plan) plan (omega arith))) ∙ sum_parts steps plan (length plan) (omega arith) room
+    ap (λ ss. sum (greens_of steps plan) + intergreens ss) (sym (take_all (length plan) plan (omega arith))) ∙ sum_parts steps plan (length plan) (omega arith) room
 
 -- a change doesn't count in what intergreens take
-pub lost_bare : (ss : List Stage) → lost (map bare_stage ss) ≡ lost ss
-lost_bare [] = refl
-lost_bare (s ∷ ss) =
+pub intergreens_bare : (ss : List Stage) → intergreens (map bare_stage ss) ≡ intergreens ss
+intergreens_bare [] = refl
+intergreens_bare (s ∷ ss) =
     omega (
       arith,
       sum_by-cons (λ (s : Stage). s.intergreen) (bare_stage s) (map bare_stage ss),
       sum_by-cons (λ (s : Stage). s.intergreen) s ss,
-      lost_bare ss,
+      intergreens_bare ss,
     )
 
 -- stages that differ at most in their changes
@@ -92,7 +92,7 @@ plan_fits steps stages plan is =
     let parts = plan_parts steps plan is.allowed in
     let count : length plan ≡ length stages =
     sym (length-map plan bare_stage) ∙ ap length is.same ∙ length-map stages bare_stage in
-    let gaps : lost plan ≡ lost stages = sym (lost_bare plan) ∙ ap lost is.same ∙ lost_bare stages in
+    let gaps : intergreens plan ≡ intergreens stages = sym (intergreens_bare plan) ∙ ap intergreens is.same ∙ intergreens_bare stages in
     let room = λ (k : ℕ) (inside : k < length plan). green_room steps plan k parts.2 inside in
     record {
       count = length-map-range_with_len (green_at steps plan) 0 (length plan) ∙ count;

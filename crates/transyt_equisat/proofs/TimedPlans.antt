@@ -13,28 +13,28 @@ use Rattle.transyt_parts.specs.Made.{bare_stage}
 use Rattle.transyt_parts.specs.Plan.{stage_of, no_stage, length_at, stage_lengths, in_order, has_green}
 use Rattle.transyt_parts.specs.Plan.{have_greens, place_after}
 use Rattle.transyt_parts.proofs.BelowLaws.{each_below}
-use Rattle.transyt_equisat.specs.Peaks.{Fits, lost, greens_of, IsPlanOf}
+use Rattle.transyt_equisat.specs.Peaks.{Fits, intergreens, greens_of, IsPlanOf}
 use Rattle.transyt_equisat.specs.Balance.{change_at}
-use Rattle.transyt_equisat.proofs.PlanFits.{green_at, lengths_sum, lost_bare, one_shorter}
+use Rattle.transyt_equisat.proofs.PlanFits.{green_at, lengths_sum, intergreens_bare, one_shorter}
 
 -- the change of the stage at a place: as many steps behind the first as the stages before it take
 pub change_sum : (steps : ℕ) (stages : List Stage) (gs : List ℕ) (k : ℕ) → length gs ≡ length stages
     → (stage_of stages 0).change < steps → k ≤ length stages
-    → change_at steps stages gs k ≡ ((stage_of stages 0).change + (sum (take k gs) + lost (take k stages))) % steps
+    → change_at steps stages gs k ≡ ((stage_of stages 0).change + (sum (take k gs) + intergreens (take k stages))) % steps
 change_sum steps stages gs zero count first inside =
-    let none : (stage_of stages 0).change + (sum (take 0 gs) + lost (take 0 stages)) ≡ (stage_of stages 0).change = omega arith in
+    let none : (stage_of stages 0).change + (sum (take 0 gs) + intergreens (take 0 stages)) ≡ (stage_of stages 0).change = omega arith in
     sym (ap (λ n. n % steps) none ∙ mod-eq_of_lt first)
 change_sum steps stages gs (suc k) count first inside =
     let c : ℕ = (stage_of stages 0).change in
-    let before : ℕ = c + (sum (take k gs) + lost (take k stages)) in
+    let before : ℕ = c + (sum (take k gs) + intergreens (take k stages)) in
     let here = change_sum steps stages gs k count first (omega arith) in
     let next : suc k ≡ k + 1 = omega arith in
     let greens = ap (λ m. sum (take m gs)) next ∙ sum_by_more (λ x. x) gs k 0 (omega arith) in
-    let gaps = ap (λ m. lost (take m stages)) next ∙ sum_by_more (λ (s : Stage). s.intergreen) stages k no_stage (omega arith) in
+    let gaps = ap (λ m. intergreens (take m stages)) next ∙ sum_by_more (λ (s : Stage). s.intergreen) stages k no_stage (omega arith) in
     let split : (before % steps + get_or gs k 0 + (stage_of stages k).intergreen)
     ≡ before % steps + (get_or gs k 0 + (stage_of stages k).intergreen) = omega arith in
     let all : before + (get_or gs k 0 + (stage_of stages k).intergreen)
-    ≡ c + (sum (take (suc k) gs) + lost (take (suc k) stages)) = omega (arith, greens, gaps) in
+    ≡ c + (sum (take (suc k) gs) + intergreens (take (suc k) stages)) = omega (arith, greens, gaps) in
     rw (here, split) (mod-add-mod before steps (get_or gs k 0 + (stage_of stages k).intergreen) ∙ ap (λ n. n % steps) all)
 
 -- behind the last stage stands the change of the first
@@ -44,8 +44,8 @@ change_round steps stages gs fits first =
     let c : ℕ = (stage_of stages 0).change in
     let all_gs = ap sum (take_all (length gs) gs (omega arith)) in
     let count : length stages ≡ length gs = sym fits.count in
-    let total : c + (sum (take (length stages) gs) + lost (take (length stages) stages)) ≡ c + steps =
-    omega (arith, ap (λ m. sum (take m gs)) count, all_gs, ap lost (take_all (length stages) stages (omega arith)), fits.fills) in
+    let total : c + (sum (take (length stages) gs) + intergreens (take (length stages) stages)) ≡ c + steps =
+    omega (arith, ap (λ m. sum (take m gs)) count, all_gs, ap intergreens (take_all (length stages) stages (omega arith)), fits.fills) in
     change_sum steps stages gs (length stages) fits.count first (omega arith)
     ∙ ap (λ n. n % steps) total ∙ add-mod_right c steps ∙ mod-eq_of_lt first
 
@@ -116,7 +116,7 @@ timed_allowed steps stages gs plan timed fits two first some same =
     let low = ap (λ (s : Stage). s.least) (timed.each k inside) in
     omega (arith, len, gap, low, fits.least k inside) in
     let greens = timed_greens steps stages gs plan timed fits two first some in
-    let gaps : lost plan ≡ lost stages = sym (lost_bare plan) ∙ ap lost same ∙ lost_bare stages in
+    let gaps : intergreens plan ≡ intergreens stages = sym (intergreens_bare plan) ∙ ap intergreens same ∙ intergreens_bare stages in
     let total : sum (stage_lengths steps plan) ≡ steps =
     omega (arith, lengths_sum steps plan (λ k inside. omega (arith, room k inside)), ap sum greens, gaps, fits.fills) in
     let few : nat_le 2 (length plan) ≡ true = le-leb 2 (length plan) (omega (arith, timed.count)) in

@@ -8,9 +8,9 @@ use Rattle.transyt_parts.specs.Parts.{NodeValue, LinkValue, total_flow}
 use Rattle.transyt_parts.specs.Plan.{stage_of}
 use Rattle.transyt_net.specs.Parts.{Network, node_of}
 use Rattle.transyt_equisat.specs.declared.fraction.Fraction.{Fraction}
-use Rattle.transyt_equisat.specs.declared.balancing.Told.{Told}
+use Rattle.transyt_equisat.specs.declared.balancing.Peak.{Peak}
 use Rattle.transyt_equisat.specs.Degrees.{is_above, nothing, AtMost, IsSame, is_counted, counts_in, degree}
-use Rattle.transyt_equisat.specs.Peaks.{lost, green_of, peak, greens_of, IsPlanOf}
+use Rattle.transyt_equisat.specs.Peaks.{intergreens, green_of, peak, greens_of, IsPlanOf}
 
 -- the peak, the number of the first link that reaches it, and the shares of the stages in order
 pub record GreensValue : Type 0 where
@@ -58,7 +58,7 @@ least_greens net n v = map (first_green net n (λ d. not (is_above d v))) (range
 -- the greens of the stages: the least, and what is left of the cycle for the first
 abbrev pub greens_at : Network → NodeValue → Fraction → List ℕ
 greens_at net n v =
-    first_more (net.frame.step_count - (sum (least_greens net n v) + lost n.stages)) (least_greens net n v)
+    first_more (net.frame.step_count - (sum (least_greens net n v) + intergreens n.stages)) (least_greens net n v)
 
 -- the need of the stage at a place: the least green at which each of its counted links is below v; 0 where v is 0
 abbrev pub need_at : Network → NodeValue → Fraction → ℕ → ℕ
@@ -83,9 +83,9 @@ abbrev pub reaching : Network → ℕ → Fraction → List ℕ → Option LinkV
 reaching net number v greens = if nat_eq v.top 0 then None else find (reaches net number v greens) net.links
 
 -- the degree and number of a link that was found; 0 where none was
-abbrev pub told_of : ℕ → List ℕ → Option LinkValue → Told
-told_of steps greens None = record { top = 0; base = 1; link = 0 }
-told_of steps greens (Some l) =
+abbrev pub peak_of : ℕ → List ℕ → Option LinkValue → Peak
+peak_of steps greens None = record { top = 0; base = 1; link = 0 }
+peak_of steps greens (Some l) =
     record { top = total_flow l * steps; base = l.saturation * green_of greens l; link = l.number }
 
 -- the share of the stage at a place, with these greens and needs
@@ -100,9 +100,9 @@ share_at net n v greens k = share_of net.frame.step_count n.stages greens (need_
 -- the answer for a peak and greens
 abbrev pub answer_of : Network → NodeValue → Fraction → List ℕ → GreensValue
 answer_of net n v greens = record {
-  top = (told_of net.frame.step_count greens (reaching net n.number v greens)).top;
-  base = (told_of net.frame.step_count greens (reaching net n.number v greens)).base;
-  link = (told_of net.frame.step_count greens (reaching net n.number v greens)).link;
+  top = (peak_of net.frame.step_count greens (reaching net n.number v greens)).top;
+  base = (peak_of net.frame.step_count greens (reaching net n.number v greens)).base;
+  link = (peak_of net.frame.step_count greens (reaching net n.number v greens)).link;
   stages = map (share_at net n v greens) (range_with_len 0 (length n.stages));
 }
 
@@ -136,4 +136,4 @@ pub record IsBalanced (net : Network) (n : NodeValue) (g : GreensValue) : Type 0
   pub attained : IsSame (peak_told g) (peak net n.number (greens_of net.frame.step_count (timed n.stages g.stages)))
   pub least : (plan : List Stage) → IsPlanOf net.frame.step_count n.stages plan
       → AtMost (peak_told g) (peak net n.number (greens_of net.frame.step_count plan))
-  pub certificate : 0 < g.top → net.frame.step_count < sum (map (λ h. h.need) g.stages) + lost n.stages
+  pub certificate : 0 < g.top → net.frame.step_count < sum (map (λ h. h.need) g.stages) + intergreens n.stages

@@ -10,14 +10,14 @@ use Rattle.transyt_equisat.specs.declared.fraction.Fraction.{Fraction}
 use Rattle.transyt_equisat.specs.Degrees.{greatest, is_counted, first_stage, degree}
 
 -- the steps of the cycle that intergreens take
-abbrev pub lost : List Stage → ℕ
-lost stages = sum_by (λ s. s.intergreen) stages
+abbrev pub intergreens : List Stage → ℕ
+intergreens stages = sum_by (λ s. s.intergreen) stages
 
 -- greens of these stages, none below its least, that with the intergreens fill the cycle
 pub record Fits (steps : ℕ) (stages : List Stage) (greens : List ℕ) : Type 0 where
   pub count : length greens ≡ length stages
   pub least : (k : ℕ) → k < length stages → (stage_of stages k).least ≤ slice_index greens k
-  pub fills : sum greens + lost stages ≡ steps
+  pub fills : sum greens + intergreens stages ≡ steps
 
 -- the green of a counted link's stage
 abbrev pub green_of : List ℕ → LinkValue → ℕ

@@ -10,7 +10,7 @@ use Rattle.transyt_equisat.specs.Degrees.{counts_in, is_counted, first_stage, is
 use Rattle.transyt_parts.specs.declared.node.Stage.{Stage}
 use Rattle.transyt_parts.specs.Plan.{stage_of}
 use Rattle.transyt_parts.specs.Valid.{IsStage}
-use Rattle.transyt_equisat.specs.Peaks.{lost, Fits}
+use Rattle.transyt_equisat.specs.Peaks.{intergreens, Fits}
 use Rattle.transyt_equisat.specs.declared.greens.Share.{Share}
 use Rattle.transyt_equisat.specs.Balance.{first_from, share_of}
 
@@ -60,7 +60,7 @@ pub record IsAsked (a : AskedValue) : Type 0 where
   pub count : length a.demands ≡ length a.stages
   pub stages : All (IsStage a.steps) a.stages
   pub live : All (λ d. 0 < d.saturation) a.demands
-  pub room : sum (map (λ s. s.least) a.stages) + lost a.stages ≤ a.steps
+  pub room : sum (map (λ s. s.least) a.stages) + intergreens a.stages ≤ a.steps
 
 -- greens of the stages, none below its least
 pub record AreEnough (a : AskedValue) (greens : List ℕ) : Type 0 where
@@ -87,23 +87,22 @@ pub record IsLeastPeak (a : AskedValue) (v : Fraction) : Type 0 where
   pub least : (w : Fraction) (es : List ℕ) → 0 < w.base → Fits a.steps a.stages es → IsUnder a es w
       → is_above v w ≡ false
 
--- the least green at which a demand isn't above v
-abbrev pub green_by : ℕ → Fraction → ℕ → Demand → ℕ
-green_by steps v least d = first_from (λ e. not (is_above (degree_of steps d e) v)) least (steps - least)
+-- the least green of the stage at a place at which its demand isn't above v
+abbrev pub green_by_demand : AskedValue → Fraction → ℕ → ℕ
+green_by_demand a v k =
+    first_from (λ e. not (is_above (degree_of a.steps (slice_index_or a.demands k no_demand) e) v))
+    (stage_of a.stages k).least (a.steps - (stage_of a.stages k).least)
 
--- the least green at which a demand is below v; 0 where v is 0
-abbrev pub need_by : ℕ → Fraction → ℕ → Demand → ℕ
-need_by steps v least d =
-    if nat_eq v.top 0 then 0 else first_from (λ e. is_above v (degree_of steps d e)) least (steps - least)
-
--- the green of the stage at a place
-abbrev pub green_there : AskedValue → Fraction → ℕ → ℕ
-green_there a v k = green_by a.steps v (stage_of a.stages k).least (slice_index_or a.demands k no_demand)
+-- the least green at which its demand is below v; 0 where v is 0
+abbrev pub need_by_demand : AskedValue → Fraction → ℕ → ℕ
+need_by_demand a v k =
+    if nat_eq v.top 0 then 0
+    else first_from (λ e. is_above v (degree_of a.steps (slice_index_or a.demands k no_demand) e))
+    (stage_of a.stages k).least (a.steps - (stage_of a.stages k).least)
 
 -- its share
-abbrev pub share_there : AskedValue → Fraction → List ℕ → ℕ → Share
-share_there a v greens k = share_of a.steps a.stages greens
-    (λ k. need_by a.steps v (stage_of a.stages k).least (slice_index_or a.demands k no_demand)) k
+abbrev pub share_by_demand : AskedValue → Fraction → List ℕ → ℕ → Share
+share_by_demand a v greens k = share_of a.steps a.stages greens (need_by_demand a v) k
 
 -- the counted links run in one of so many stages
 abbrev pub AreWithin : ℕ → ℕ → List LinkValue → Type 0

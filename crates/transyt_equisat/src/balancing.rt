@@ -3,20 +3,22 @@
 ghost use Rattle.std.specs.Prelude.{◌≡◌, ℕ, ◌+◌, ◌-◌, ◌<◌, ◌≤◌, length, map, sum, All, IfOk, IfSome, true, option_map, Some};
 ghost use Rattle.std.specs.List.{range_with_len, find};
 ghost use Rattle.transyt_net.specs.Parts.{node_of, link_of};
-ghost use Rattle.transyt_equisat.specs.Degrees.{is_counted, degree};
-ghost use Rattle.transyt_equisat.specs.Peaks.{lost, green_of};
-ghost use Rattle.transyt_equisat.specs.Sharing.{asked_of, green_by, need_by, green_there, share_there};
-ghost use Rattle.transyt_equisat.specs.Sharing.{IsLeastPeak};
+ghost use Rattle.transyt_equisat.specs.Degrees.{is_counted};
+ghost use Rattle.transyt_equisat.specs.Peaks.{intergreens};
+ghost use Rattle.transyt_equisat.specs.Sharing.{green_by_demand, share_by_demand, IsLeastPeak};
 ghost use Rattle.transyt_equisat.specs.Balance.{balance, balance_at, greens_at, is_same, first_more, reaches, reaching};
-ghost use Rattle.transyt_equisat.specs.Balance.{change_at};
-ghost use Rattle.transyt_equisat.specs.Balance.{told_of, IsBalanced};
+ghost use Rattle.transyt_equisat.specs.Balance.{peak_of, IsBalanced};
 
 use crate::asked::Asked;
-use crate::demand::{Demand, degree_of, demands_of};
-use crate::fraction::{Fraction, is_above};
+use crate::counted_link::CountedLink;
+use crate::demand::demands_of;
+use crate::fraction::Fraction;
 use crate::greens::{Greens, Share};
+use crate::node_demand::NodeDemand;
 use crate::node_greens::NodeGreens;
-use crate::sharing::{least_peak, taken};
+use crate::sharing::least_peak;
+use crate::stage_demand::StageDemand;
+use crate::stage_greens::StageGreens;
 use std::alloc::{AllocError, Global};
 use transyt_net::{Link, Net};
 
@@ -34,129 +36,33 @@ fn is_counted(link: &Link, number: u32) -> bool
     link.node == number && link.stages.len() == 1
 }
 
-/// The degree of the link at a place at a green.
-fn degree(net: &Net, place: usize, green: u32) -> Fraction
-    requires place { place < length net.now.links }
-    requires green { green ≤ 120 }
-    ensures value { result ≡ degree net.now.frame.step_count (link_of net.now place) green }
-    ensures top { result.top ≤ 10798920 }
-    ensures base { result.base ≤ 1199880 }
-{
-    let link = &net.links()[place];
-    Fraction {
-        top: u64::from(net.total_flow(place)) * u64::from(net.frame().step_count),
-        base: u64::from(link.saturation) * u64::from(green),
-    }
-}
-
-/// The least green at which a demand isn't above the peak.
-#[tactic(auto, using(crate::proofs::SearchLaws::first_skip, crate::proofs::SearchLaws::first_here))]
-fn green_by(steps: u32, peak: Fraction, least: u32, demand: Demand) -> u32
-    requires { least ≤ steps }
-    ensures value { result ≡ green_by steps peak least demand }
-    ensures low { least ≤ result }
-    ensures small { result ≤ steps }
-{
-    for green in least..steps {
-        if !is_above(degree_of(steps, demand, green), peak) {
-            return green;
-        }
-    }
-    steps
-}
-
-/// The least green at which a demand is below the peak; 0 where the peak is 0.
-#[tactic(auto, using(crate::proofs::SearchLaws::first_skip, crate::proofs::SearchLaws::first_here))]
-fn need_by(steps: u32, peak: Fraction, least: u32, demand: Demand) -> u32
-    requires { least ≤ steps }
-    ensures { result ≡ need_by steps peak least demand }
-{
-    if peak.top == 0 {
-        return 0;
-    }
-    for green in least..steps {
-        if is_above(peak, degree_of(steps, demand, green)) {
-            return green;
-        }
-    }
-    steps
-}
-
-/// The least green of the stage at a place for a peak.
-fn green_there(asked: &Asked, peak: Fraction, place: usize) -> u32
-    requires { place < length asked.now.stages }
-    ensures { result ≡ green_there asked.now peak place }
-{
-    green_by(
-        asked.steps(),
-        peak,
-        asked.stages()[place].least,
-        asked.demands()[place],
-    )
-}
-
 /// The least greens of the stages for a peak.
 fn greens_for(alloc: Global, asked: &Asked, peak: Fraction) -> Result<Vec<u32>, AllocError>
     ensures { IfOk result (λ greens. greens.items ≡
-        map (green_there asked.now peak) (range_with_len 0 (length asked.now.stages))) }
+        map (green_by_demand asked.now peak) (range_with_len 0 (length asked.now.stages))) }
 {
     let count = asked.stages().len();
     let mut greens = Vec::with_capacity(alloc, count)?;
     for place in 0..count {
-        greens.push(green_there(asked, peak, place))?;
+        greens.push(StageDemand { asked, place }.green(peak))?;
     }
     Ok(greens)
-}
-
-/// The step at which the stage at a place begins.
-fn change_at(asked: &Asked, here: &NodeGreens<'_>, place: usize) -> u32
-    requires place { place < length asked.now.stages }
-    requires count { length here.now.greens.now ≡ length asked.now.stages }
-    ensures { result ≡ change_at asked.now.steps asked.now.stages here.now.greens.now place }
-{
-    let steps = asked.steps();
-    let stages = asked.stages();
-    let mut change = stages[0].change;
-    for before in 0..place {
-        change = (change + here.greens[before] + stages[before].intergreen) % steps;
-    }
-    change
-}
-
-/// The share of the stage at a place for a peak and greens.
-fn share_there(asked: &Asked, peak: Fraction, here: &NodeGreens<'_>, place: usize) -> Share
-    requires place { place < length asked.now.stages }
-    requires count { length here.now.greens.now ≡ length asked.now.stages }
-    ensures { result ≡ share_there asked.now peak here.now.greens.now place }
-{
-    Share {
-        change: change_at(asked, here, place),
-        green: here.greens[place],
-        need: need_by(
-            asked.steps(),
-            peak,
-            asked.stages()[place].least,
-            asked.demands()[place],
-        ),
-    }
 }
 
 /// The shares of the stages for a peak and greens.
 fn shares_for(
     alloc: Global,
-    asked: &Asked,
+    here: &StageGreens<'_, '_>,
     peak: Fraction,
-    here: &NodeGreens<'_>,
 ) -> Result<Vec<Share>, AllocError>
-    requires { length here.now.greens.now ≡ length asked.now.stages }
     ensures { IfOk result (λ shares. shares.items
-        ≡ map (share_there asked.now peak here.now.greens.now)
-        (range_with_len 0 (length asked.now.stages))) }
+        ≡ map (share_by_demand here.now.asked.now peak here.now.greens.now)
+        (range_with_len 0 (length here.now.asked.now.stages))) }
 {
-    let count = asked.stages().len();
+    let count = here.asked.stages().len();
     let mut shares = Vec::with_capacity(alloc, count)?;
     for place in 0..count {
-        shares.push(share_there(asked, peak, here, place))?;
+        shares.push(here.share(place, peak))?;
     }
     Ok(shares)
 }
@@ -164,30 +70,20 @@ fn shares_for(
 /// Greens with what is left of the cycle given to the first stage.
 fn filled(asked: &Asked, greens: Vec<u32>) -> Vec<u32>
     requires count { length greens.items ≡ length asked.now.stages }
-    requires greens { All (λ e. e ≤ 120) greens.items }
-    requires room { sum greens.items + lost asked.now.stages ≤ asked.now.steps }
+    requires room { sum greens.items + intergreens asked.now.stages ≤ asked.now.steps }
     ensures value { result.items
-        ≡ first_more (asked.now.steps - (sum greens.items + lost asked.now.stages)) greens.items }
+        ≡ first_more (asked.now.steps - (sum greens.items + intergreens asked.now.stages))
+        greens.items }
     ensures small { All (λ e. e ≤ 120) result.items }
 {
-    let left = asked.steps() - taken(asked, &greens);
+    let used = StageGreens {
+        asked,
+        greens: &greens,
+    };
+    let left = asked.steps() - used.taken();
     let mut filled = greens;
     filled[0] += left;
     filled
-}
-
-/// The degree of the link at a place, which counts at the node, at the green of its stage.
-fn degree_here(here: &NodeGreens<'_>, place: usize) -> Fraction
-    requires place { place < length here.now.net.now.links }
-    requires counted { is_counted here.now.number (link_of here.now.net.now place) ≡ true }
-    ensures value { result ≡ degree here.now.net.now.frame.step_count
-        (link_of here.now.net.now place)
-        (green_of here.now.greens.now (link_of here.now.net.now place)) }
-    ensures top { result.top ≤ 10798920 }
-    ensures base { result.base ≤ 1199880 }
-{
-    let link = &here.net.links()[place];
-    degree(here.net, place, here.greens[link.stages[0] as usize - 1])
 }
 
 /// Whether the link at a place counts at the node, and reaches the peak.
@@ -197,7 +93,7 @@ fn reaches(here: &NodeGreens<'_>, place: usize, peak: Fraction) -> bool
         (link_of here.now.net.now place) }
 {
     let link = &here.net.links()[place];
-    is_counted(link, here.number) && is_same(degree_here(here, place), peak)
+    is_counted(link, here.number) && is_same(CountedLink { here, place }.degree(), peak)
 }
 
 /// The place of the first counted link that reaches the peak.
@@ -217,22 +113,22 @@ fn reaching(here: &NodeGreens<'_>, peak: Fraction) -> Option<usize>
 }
 
 /// The peak as an answer tells it.
-struct Told {
+struct Peak {
     top: u32,
     base: u32,
     link: u32,
 }
 
-/// The peak as the link at a place has it.
-fn told_by(here: &NodeGreens<'_>, place: usize) -> Told
-    requires place { place < length here.now.net.now.links }
-    requires counted { is_counted here.now.number (link_of here.now.net.now place) ≡ true }
-    ensures { result ≡ told_of here.now.net.now.frame.step_count here.now.greens.now
-        (Some (link_of here.now.net.now place)) }
+/// The peak as a link has it.
+fn peak_of(counted: &CountedLink<'_, '_>) -> Peak
+    ensures { result ≡ peak_of counted.now.here.now.net.now.frame.step_count
+        counted.now.here.now.greens.now
+        (Some (link_of counted.now.here.now.net.now counted.now.place)) }
 {
-    let link = &here.net.links()[place];
-    let degree = degree_here(here, place);
-    Told {
+    let net = counted.here.net;
+    let link = &net.links()[counted.place];
+    let degree = counted.degree();
+    Peak {
         top: degree.top as u32,
         base: degree.base as u32,
         link: link.number,
@@ -240,69 +136,66 @@ fn told_by(here: &NodeGreens<'_>, place: usize) -> Told
 }
 
 /// The peak as the first link has it that reaches it.
-fn peak_told(here: &NodeGreens<'_>, peak: Fraction) -> Told
-    ensures { result ≡ told_of here.now.net.now.frame.step_count here.now.greens.now
+fn peak_told(here: &NodeGreens<'_>, peak: Fraction) -> Peak
+    ensures { result ≡ peak_of here.now.net.now.frame.step_count here.now.greens.now
         (reaching here.now.net.now here.now.number peak here.now.greens.now) }
 {
     if peak.top == 0 {
-        return Told {
+        return Peak {
             top: 0,
             base: 1,
             link: 0,
         };
     }
     match reaching(here, peak) {
-        None => Told {
+        None => Peak {
             top: 0,
             base: 1,
             link: 0,
         },
-        Some(place) => told_by(here, place),
+        Some(place) => peak_of(&CountedLink { here, place }),
     }
 }
 
 /// The greens of the stages for a least peak: the least ones, and what is left of the cycle for the first.
 fn greens_at(
     alloc: Global,
-    net: &Net,
-    node: usize,
-    asked: &Asked,
+    here: &NodeDemand<'_, '_>,
     peak: Fraction,
 ) -> Result<Vec<u32>, AllocError>
-    requires node { node < length net.now.nodes }
-    requires asked { asked.now ≡ asked_of net.now (node_of net.now node) }
-    requires least { IsLeastPeak asked.now peak }
+    requires { IsLeastPeak here.now.asked.now peak }
     ensures value { IfOk result (λ greens. greens.items
-        ≡ greens_at net.now (node_of net.now node) peak) }
+        ≡ greens_at here.now.net.now (node_of here.now.net.now here.now.node) peak) }
     ensures small { IfOk result (λ greens. All (λ e. e ≤ 120) greens.items) }
 {
-    let _nodes = net.nodes();
-    let least = greens_for(alloc, asked, peak)?;
-    Ok(filled(asked, least))
+    let _nodes = here.net.nodes();
+    let least = greens_for(alloc, here.asked, peak)?;
+    Ok(filled(here.asked, least))
 }
 
 /// The answer for a least peak.
 fn answer_for(
     alloc: Global,
-    net: &Net,
-    node: usize,
-    asked: &Asked,
+    here: &NodeDemand<'_, '_>,
     peak: Fraction,
 ) -> Result<Greens, AllocError>
-    requires node { node < length net.now.nodes }
-    requires asked { asked.now ≡ asked_of net.now (node_of net.now node) }
-    requires least { IsLeastPeak asked.now peak }
-    ensures { IfOk result (λ g. g ≡ balance_at net.now (node_of net.now node) peak) }
+    requires { IsLeastPeak here.now.asked.now peak }
+    ensures { IfOk result (λ g. g
+        ≡ balance_at here.now.net.now (node_of here.now.net.now here.now.node) peak) }
 {
-    let filled = greens_at(alloc, net, node, asked, peak)?;
-    let node = &net.nodes()[node];
-    let here = NodeGreens {
-        net,
+    let filled = greens_at(alloc, here, peak)?;
+    let node = &here.net.nodes()[here.node];
+    let set = NodeGreens {
+        net: here.net,
         number: node.number,
         greens: &filled,
     };
-    let shares = shares_for(alloc, asked, peak, &here)?;
-    let Told { top, base, link } = peak_told(&here, peak);
+    let green = StageGreens {
+        asked: here.asked,
+        greens: &filled,
+    };
+    let shares = shares_for(alloc, &green, peak)?;
+    let Peak { top, base, link } = peak_told(&set, peak);
     Ok(Greens {
         top,
         base,
@@ -325,5 +218,10 @@ pub fn balance(alloc: Global, net: &Net, node: usize) -> Result<Greens, AllocErr
     let demands = demands_of(alloc, net, here.number, here.stages.len())?;
     let asked = Asked::new(net, node, &demands);
     let peak = least_peak(alloc, &asked)?;
-    answer_for(alloc, net, node, &asked, peak)
+    let here = NodeDemand {
+        net,
+        node,
+        asked: &asked,
+    };
+    answer_for(alloc, &here, peak)
 }

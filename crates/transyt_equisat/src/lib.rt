@@ -8,12 +8,16 @@
 
 mod asked;
 mod balancing;
+mod counted_link;
 mod demand;
 mod fraction;
 mod greens;
 mod laws;
+mod node_demand;
 mod node_greens;
 mod sharing;
+mod stage_demand;
+mod stage_greens;
 
 pub use balancing::balance;
 pub use greens::{Greens, Share};

@@ -1,68 +1,58 @@
 //! How the steps of the cycle are shared out among the stages.
 
-ghost use Rattle.std.specs.Prelude.{◌≡◌, ℕ, ◌+◌, ◌<◌, ◌≤◌, length, map, sum, sum_by, All, IfOk, false};
+ghost use Rattle.std.specs.Prelude.{◌≡◌, ◌<◌, ◌≤◌, length, map, All, IfOk, false};
 ghost use Rattle.transyt_equisat.specs.Degrees.{is_above};
-ghost use Rattle.transyt_equisat.specs.Peaks.{lost, Fits};
+ghost use Rattle.transyt_equisat.specs.Peaks.{Fits};
 ghost use Rattle.transyt_equisat.specs.Sharing.{IsAsked, AreEnough, degree_at, IsUnder, IsBest, IsLeastPeak};
 
 use crate::asked::Asked;
 use crate::demand::degree_of;
 use crate::fraction::{Fraction, is_above};
+use crate::stage_greens::StageGreens;
 use std::alloc::{AllocError, Global};
 use transyt_parts::Stage;
 
 /// The degree of the stage at a place.
-fn degree_at(asked: &Asked, greens: &[u32], place: usize) -> Fraction
-    requires place { place < length asked.now.stages }
-    requires count { length greens.now ≡ length asked.now.stages }
-    ensures value { result ≡ degree_at asked.now greens.now place }
-    ensures asked { IsAsked asked.now }
+fn degree_at(here: &StageGreens<'_, '_>, place: usize) -> Fraction
+    requires { place < length here.now.asked.now.stages }
+    ensures value { result ≡ degree_at here.now.asked.now here.now.greens.now place }
+    ensures asked { IsAsked here.now.asked.now }
 {
-    degree_of(asked.steps(), asked.demands()[place], greens[place])
+    degree_of(
+        here.asked.steps(),
+        here.asked.demands()[place],
+        here.greens[place],
+    )
 }
 
 /// Of two places that of the stage with the greater degree, the first where they are equal.
-fn busier(asked: &Asked, greens: &[u32], a: usize, b: usize) -> usize
-    requires a { a < length asked.now.stages }
-    requires b { b < length asked.now.stages }
-    requires count { length greens.now ≡ length asked.now.stages }
-    ensures inside { result < length asked.now.stages }
-    ensures over_a { is_above (degree_at asked.now greens.now a)
-        (degree_at asked.now greens.now result) ≡ false }
-    ensures over_b { is_above (degree_at asked.now greens.now b)
-        (degree_at asked.now greens.now result) ≡ false }
+fn busier(here: &StageGreens<'_, '_>, a: usize, b: usize) -> usize
+    requires a { a < length here.now.asked.now.stages }
+    requires b { b < length here.now.asked.now.stages }
+    ensures inside { result < length here.now.asked.now.stages }
+    ensures over_a { is_above (degree_at here.now.asked.now here.now.greens.now a)
+        (degree_at here.now.asked.now here.now.greens.now result) ≡ false }
+    ensures over_b { is_above (degree_at here.now.asked.now here.now.greens.now b)
+        (degree_at here.now.asked.now here.now.greens.now result) ≡ false }
 {
-    if is_above(degree_at(asked, greens, b), degree_at(asked, greens, a)) {
+    if is_above(degree_at(here, b), degree_at(here, a)) {
         return b;
     }
     a
 }
 
 /// The place of the stage with the greatest degree.
-fn busiest(asked: &Asked, greens: &[u32]) -> usize
-    requires enough { AreEnough asked.now greens.now }
-    ensures inside { result < length asked.now.stages }
-    ensures greatest { IsUnder asked.now greens.now (degree_at asked.now greens.now result) }
+fn busiest(here: &StageGreens<'_, '_>) -> usize
+    requires { AreEnough here.now.asked.now here.now.greens.now }
+    ensures inside { result < length here.now.asked.now.stages }
+    ensures greatest { IsUnder here.now.asked.now here.now.greens.now
+        (degree_at here.now.asked.now here.now.greens.now result) }
 {
     let mut best = 0;
-    for place in 1..asked.stages().len() {
-        best = busier(asked, greens, best, place);
+    for place in 1..here.asked.stages().len() {
+        best = busier(here, best, place);
     }
     best
-}
-
-/// The steps that these greens and the intergreens take.
-pub fn taken(asked: &Asked, greens: &[u32]) -> u32
-    requires count { length greens.now ≡ length asked.now.stages }
-    requires greens { All (λ e. e ≤ 120) greens.now }
-    ensures { result ≡ sum greens.now + lost asked.now.stages }
-{
-    let stages = asked.stages();
-    let mut all = 0;
-    for place in 0..stages.len() {
-        all += greens[place] + stages[place].intergreen;
-    }
-    all
 }
 
 /// The least greens of these stages.
@@ -78,24 +68,25 @@ fn share_out(asked: &Asked, greens: &mut [u32])
     requires { greens.old ≡ map (λ s. s.least) asked.now.stages }
     ensures fits { Fits asked.now.steps asked.now.stages greens.new }
     ensures best { IsBest asked.now greens.new }
+    ensures small { All (λ e. e ≤ 120) greens.new }
 {
     let steps = asked.steps();
-    let used = taken(asked, greens);
+    let used = StageGreens { asked, greens }.taken();
     for turn in used..steps {
-        let place = busiest(asked, greens);
+        let place = busiest(&StageGreens { asked, greens });
         greens[place] += 1;
     }
 }
 
 /// The least peak of all greens that fill the cycle; `greens` are the least ones.
 #[tactic(auto, using(crate::proofs::SharingLaws::enough_of, crate::proofs::SharingLaws::peak_is_least))]
-fn peak_of(asked: &Asked, greens: &mut [u32]) -> Fraction
+fn peak_by_sharing(asked: &Asked, greens: &mut [u32]) -> Fraction
     requires { greens.old ≡ map (λ s. s.least) asked.now.stages }
     ensures { IsLeastPeak asked.now result }
 {
     share_out(asked, greens);
-    let place = busiest(asked, greens);
-    degree_at(asked, greens, place)
+    let here = StageGreens { asked, greens };
+    degree_at(&here, busiest(&here))
 }
 
 /// The least peak of all greens that fill the cycle.
@@ -103,5 +94,5 @@ pub fn least_peak(alloc: Global, asked: &Asked) -> Result<Fraction, AllocError>
     ensures { IfOk result (λ v. IsLeastPeak asked.now v) }
 {
     let mut greens = least_greens(alloc, asked.stages())?;
-    Ok(peak_of(asked, &mut greens))
+    Ok(peak_by_sharing(asked, &mut greens))
 }

@@ -19,7 +19,7 @@ use Rattle.transyt_parts.proofs.CopyLaws.{same_length}
 use Rattle.transyt_net.specs.Parts.{Network, with_signals}
 use Rattle.transyt_net.specs.Valid.{IsValid, node_numbers}
 use Rattle.transyt_net.proofs.ShapeLaws.{same_numbers}
-use Rattle.transyt_equisat.specs.Peaks.{Fits, lost}
+use Rattle.transyt_equisat.specs.Peaks.{Fits, intergreens}
 use Rattle.transyt_equisat.specs.Balance.{change_at, first_more}
 use Rattle.transyt_equisat.proofs.FilledLaws.{filled}
 use Rattle.transyt_equisat.proofs.PlanFits.{plan_parts}
@@ -91,11 +91,11 @@ bare_fits before after ss some room =
     let scaled_ss : List Stage = map (scaled_stage before after) ss in
     let gs : List ℕ = map (λ (s : Stage). s.least) ss in
     let count = length-map ss (scaled_stage before after) in
-    let gaps : lost scaled_ss ≡ lost ss =
+    let gaps : intergreens scaled_ss ≡ intergreens ss =
     sym (sum-map (λ (s : Stage). s.intergreen) scaled_ss)
     ∙ ap sum (map-map (λ (s : Stage). s.intergreen) (scaled_stage before after) ss)
     ∙ sum-map (λ (s : Stage). s.intergreen) ss in
-    let total : sum gs + lost scaled_ss ≡ least_length ss = omega (arith, sum-map (λ (s : Stage). s.least) ss, gaps) in
+    let total : sum gs + intergreens scaled_ss ≡ least_length ss = omega (arith, sum-map (λ (s : Stage). s.least) ss, gaps) in
     let fits = filled after scaled_ss gs (length-map ss (λ (s : Stage). s.least) ∙ sym count) (omega (arith, count))
     (λ k below.
     let inside : k < length ss = omega (arith, count) in

@@ -8,7 +8,7 @@ use Rattle.transyt_parts.specs.Plan.{stage_of}
 use Rattle.transyt_parts.specs.Ranges.{is_in, step_count_range}
 use Rattle.transyt_parts.specs.declared.node.Stage.{Stage}
 use Rattle.transyt_net.specs.Parts.{Network, NodeValue, LinkValue, PlanValue, node_of}
-use Rattle.transyt_equisat.specs.Peaks.{lost}
+use Rattle.transyt_equisat.specs.Peaks.{intergreens}
 use Rattle.transyt_equisat.specs.Balance.{balance, change_at, first_more, timed}
 use Rattle.transyt_variants.specs.declared.cycles.AtCycle.{AtCycle}
 use Rattle.transyt_variants.specs.declared.cycles.AtCycle.TheVariants.{NoPlan, Barred, Plan}
@@ -36,7 +36,7 @@ may_have steps net =
 
 -- the least time of stages: their least greens and their intergreens
 abbrev pub least_length : List Stage → ℕ
-least_length stages = sum_by (λ s. s.least) stages + lost stages
+least_length stages = sum_by (λ s. s.least) stages + intergreens stages
 
 -- the card number of the first node whose stages take more than so many steps
 abbrev pub first_barred : ℕ → List NodeValue → Option ℕ

@@ -6,7 +6,7 @@ use Rattle.transyt_equisat.proofs.sharing.busiest.Given as goal
 
 abbrev pub invariant-loop-place : goal.invariant-loop-place
 invariant-loop-place l = record {
-  inside : l.best < length l.asked.stages;
+  inside : l.best < length l.here.asked.now.stages;
   greatest : (k : ℕ) → k < l.place
-      → is_above (degree_at l.asked l.greens k) (degree_at l.asked l.greens l.best) ≡ false;
+      → is_above (degree_at l.here.asked.now l.here.greens.now k) (degree_at l.here.asked.now l.here.greens.now l.best) ≡ false;
 }
