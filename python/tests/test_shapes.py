@@ -13,6 +13,7 @@ from transyt import pictures
 from transyt.deck import Deck, read_deck
 from transyt.faults import Fault
 from transyt.pictures.climbing import drawn
+from transyt.pictures.svg import Drawing
 from transyt.report import ClimbEnd
 from transyt.session import Session
 
@@ -35,6 +36,19 @@ def scale_of(svg: str) -> Tuple[float, float]:
 def points_of(shape: Shape) -> List[Tuple[float, float]]:
     """The corners of a polygon."""
     return [(float(x), float(y)) for x, y in (pair.split(",") for pair in shape[0]["points"].split(" "))]
+
+
+class Texts(unittest.TestCase):
+    """Texts in a picture; without the program."""
+
+    def test_what_xml_forbids_is_shown_as_a_mark(self) -> None:
+        """A control character in a name, in titles too: comments may hold any byte."""
+        drawing = Drawing("road", 20, "a \x1b title", "\x00 & <b>")
+        drawing.words((0, 0), "name\x01\x7f\ufffe\U0001f6a6\tend", width=30)
+        drawing.dot((0, 0), 1, "#000000", "point \x08")
+        read = "".join(ElementTree.fromstring(str(drawing)).itertext())
+        for text in ("a \ufffd title", "\ufffd & <b>", "name\ufffd\x7f\ufffd\U0001f6a6\tend", "point \ufffd"):
+            self.assertIn(text, read)
 
 
 @needs_program

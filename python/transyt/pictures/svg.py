@@ -1,7 +1,9 @@
 """Drawing in SVG: shapes with attributes and classes alone, text as text, a title with its number on each shape."""
 
+import re
 from typing import List, Optional, Sequence, Tuple
-from xml.sax.saxutils import escape, quoteattr
+from xml.sax import saxutils
+from xml.sax.saxutils import quoteattr
 
 # Told apart by people who don't see red and green, and in grey print: from light to dark.
 CAN_GO, GREEN_EDGE, PALE, MIDDLE, QUEUE, FLOW, CANNOT, INK = (
@@ -9,6 +11,12 @@ CAN_GO, GREEN_EDGE, PALE, MIDDLE, QUEUE, FLOW, CANNOT, INK = (
 LETTER, BOLD = 6.9, 7.6  # the width of a letter at size 12, of the wider fonts
 SMALLEST = 9.0  # size of a label
 WIDE = 760.0  # of a picture, so that its text is read on A4
+FORBIDDEN = re.compile("[^\t\n\r -\ud7ff\ue000-\ufffd\U00010000-\U0010ffff]")  # in XML, however they are written
+
+
+def escape(text: str) -> str:
+    """A text as text; in the place of a character that XML forbids stands U+FFFD."""
+    return saxutils.escape(FORBIDDEN.sub("\ufffd", text))
 
 
 def number(value: float) -> str:
