@@ -1,6 +1,6 @@
 -- Rows are compared and flags are read step by step, with no jump out.
-use Rattle.std.proofs.Common.{◌≡◌, ℕ, zero, suc, ◌+◌, ◌<◌, ◌&&◌, ◌||◌, Bool, true, false, refl, List, [], ◌∷◌, length}
-use Rattle.std.proofs.Common.{nat_eq, take, get_or, ap, sym, ◌∙◌, arith, if◌then◌else◌}
+use Rattle.std.proofs.Common.{◌≡◌, ℕ, zero, suc, ◌+◌, ◌<◌, ◌&&◌, ◌||◌, Bool, false, refl, List, [], ◌∷◌, length}
+use Rattle.std.proofs.Common.{nat_eq, take, get_or, ap, sym, ◌∙◌, arith}
 use Rattle.std.specs.Str.{bytes_eq}
 use Rattle.std.specs.List.{list_any}
 use Rattle.std.specs.Int.Bits.{bit_xor, bit_or, xor_self, xor_zero_l, xor_zero_r, xor_assoc, or_zero_l}
@@ -57,13 +57,8 @@ steps_more xs ys i d here there before =
     ∙ sym (steps_suc xs ys i here there)
     ∙ ap (λ n. bytes_eq (take n xs) (take n ys)) (sym on)
 
--- a flag that was up, or is for one of those so far, after one more
-pub up_more : (here now was any more : Bool) → now ≡ (was || any) → more ≡ (any || here)
-    → (if here then true else now) ≡ (was || more)
-up_more true now was any more before told = grind arith
-up_more false now was any more before told = grind arith
-
-none_up : (flags : List Bool) → list_any (λ f. f) flags ≡ false → (p : ℕ) → flag flags p ≡ false
+-- no flag is up
+pub none_up : (flags : List Bool) → list_any (λ f. f) flags ≡ false → (p : ℕ) → flag flags p ≡ false
 none_up [] none p = refl
 none_up (f ∷ fs) none zero = (or_parts f (list_any (λ g. g) fs) none).0
 none_up (f ∷ fs) none (suc p) = none_up fs (or_parts f (list_any (λ g. g) fs) none).1 p

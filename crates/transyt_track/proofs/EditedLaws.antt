@@ -14,12 +14,8 @@ use Rattle.transyt_net.specs.Valid.{IsValid, on_numbered, place_of, node_numbers
 use Rattle.transyt_net.proofs.PlaceLaws.{place_is, on_numbered_here}
 use Rattle.transyt_track.specs.Own.{SameTimes, SameNumbers, HaveNode, HaveData, DifferAt, places_at}
 use Rattle.transyt_track.specs.Own.{change_of}
-use Rattle.transyt_track.specs.Front.{own_differs, total_differs}
-use Rattle.transyt_track.proofs.AwaitLaws.{any_none, or_false}
-use Rattle.transyt_track.proofs.ChangeLaws.{own_flag}
 use Rattle.transyt_track.proofs.PlaceLaws.{times_here}
 use Rattle.transyt_track.proofs.ShapeLaws.{shape_places}
-use Rattle.transyt_track.proofs.StartLaws.{links_totals}
 
 -- equal nodes have equal times, and equal links equal numbers
 same_times : (x y : NodeValue) → x ≡ y → SameTimes x y
@@ -76,7 +72,7 @@ module _ (a b : Network) (same : SameShape a b) (valid_a : IsValid a) (valid_b :
       (shape_places a b same l inside_a) in
       (λ have. record { numbers = numbers; times = times.0 have }, λ have. times.1 have.times)
 
-  flag_down : (n : ℕ) → n ≡ (places_at a l).node → ((not told && nat_eq n place) ≡ false ↔ HaveData a b l)
+  pub flag_down : (n : ℕ) → n ≡ (places_at a l).node → ((not told && nat_eq n place) ≡ false ↔ HaveData a b l)
   flag_down n at = by (cases_eq n place)
     where
       by : (n ≡ place) ⊎ (n ≡ place → ⊥) → ((not told && nat_eq n place) ≡ false ↔ HaveData a b l)
@@ -93,9 +89,3 @@ module _ (a b : Network) (same : SameShape a b) (valid_a : IsValid a) (valid_b :
         λ down. data_is.0 (subst (HaveNode a b) at (differ.nodes n other)),
         λ have. let apart : n ≢ place = other in grind (arith, nat_tests),
       )
-
-  pub node_flag : (n : ℕ) → n ≡ (places_at a l).node → (not told && nat_eq n place) ≡ own_differs a b l
-  node_flag n at =
-      sym (or_false (not told && nat_eq n place))
-      ∙ own_flag a b l (shape_places a b same l inside_a) (not told && nat_eq n place) false (flag_down n at)
-      (sym (any_none (total_differs a b) (links_totals a b same differ.links) (places_at a l).feeders))

@@ -1,20 +1,19 @@
 -- THE LAW OF THE FRONT: each turn keeps it.
-use Rattle.std.proofs.Common.{◌≡◌, ◌≢◌, ℕ, ◌+◌, ◌<◌, ◌≤◌, Bool, true, false, cond, not, ◌||◌, ◌&&◌, List, [], length}
+use Rattle.std.proofs.Common.{◌≡◌, ◌≢◌, ℕ, ◌+◌, ◌<◌, ◌≤◌, Bool, true, false, cond, not, ◌||◌, List, length}
 use Rattle.std.proofs.Common.{set, nat_eq, refl, ap, sym, subst, ◌∙◌, arith}
 use Rattle.std.proofs.Common.{◌==◌, ◌⊎◌, inl, inr, if◌then◌else◌}
-use Rattle.std.specs.Prelude.{slice_index_or}
 use Rattle.std.specs.Str.{bytes_eq}
 use Rattle.std.specs.List.{list_any}
 use Rattle.std.specs.Option.{option_map_or}
 use Rattle.std.proofs.lemmas.Bool.{cases_eq}
 use Rattle.std.proofs.lemmas.Bool.Decides.{nat_tests}
 use Rattle.std.proofs.lemmas.Slice.Eq.{bytes_eq-Decides}
-use Rattle.std.proofs.lemmas.List.{get_or-set_other}
+use Rattle.std.proofs.lemmas.List.{length-set, get_or-set_other}
 use Rattle.std.proofs.lemmas.Grind.{get_or-set_at}
 use Rattle.transyt_net.specs.Parts.{Network, SameShape}
 use Rattle.transyt_parts.specs.declared.frame.Frame.{Frame}
 use Rattle.transyt_kept.specs.Cell.{CellValue}
-use Rattle.transyt_sweep.specs.Sweeps.{out_of, cell_at, evaluated}
+use Rattle.transyt_sweep.specs.Sweeps.{read_at, out_of, cell_at, evaluated}
 use Rattle.transyt_kept.specs.Rows.{RowsValue, out_at, shown_at, placed}
 use Rattle.transyt_sweep.specs.Reading.{with_weights, reweighed}
 use Rattle.transyt_kept.specs.Rows.{AreRows}
@@ -23,16 +22,14 @@ use Rattle.transyt_sweep.proofs.SweepLaws.{out_of_pair, evaluated_is}
 use Rattle.transyt_sweep.proofs.FrontLaws.{mixed_turn, before_end}
 use Rattle.transyt_track.specs.Own.{places_at}
 use Rattle.transyt_track.specs.Due.{differs, read_differs, is_due}
-use Rattle.transyt_track.specs.Readers.{AreReaders, reads}
-use Rattle.transyt_track.specs.Front.{AreShownMixed, AreFlags, flag, AreAt, awaits, left_at, own_differs}
-use Rattle.transyt_track.proofs.AwaitLaws.{awaits_here, awaits_on, awaits_own, awaits_turn, or_false}
-use Rattle.transyt_track.proofs.PlaceLaws.{feeders_inside, rule_inside}
+use Rattle.transyt_track.specs.Front.{AreShownMixed, AreFlags, flag, AreAt, left_at, own_differs}
+use Rattle.transyt_track.proofs.FlagLaws.{any_same, one_same}
 use Rattle.transyt_track.proofs.MixedLaws.{mixed_here, mixed_placed, mixed_figures, shown_moved, mixed_left}
 use Rattle.transyt_track.proofs.PlacedLaws.{figures_here, figures_elsewhere}
 use Rattle.transyt_track.proofs.MixedLaws.{shown_now, shown_placed, shown_turn}
 use Rattle.transyt_track.proofs.DueLaws.{differs_is}
 use Rattle.transyt_track.proofs.LeftLaws.{left_out, left_worked}
-use Rattle.transyt_track.proofs.ShapeLaws.{shape_count, shape_frame}
+use Rattle.transyt_track.proofs.ShapeLaws.{shape_count, shape_frame, reads_inside}
 
 -- the two tests of the last sweep
 pub same_test : (s sweeps : ℕ) → sweeps ≡ s → (s == sweeps) ≡ true
@@ -46,11 +43,6 @@ same_number_eq x y same = grind (arith, nat_tests)
 
 other_number_eq : (x y : ℕ) → x ≢ y → nat_eq x y ≡ false
 other_number_eq x y other = grind (arith, nat_tests)
-
--- the first of three that none is
-own_down : (o f r : Bool) → (o || f || r) ≡ false → o ≡ false
-own_down true f r none = absurd (cc)
-own_down false f r none = refl
 
 -- a flag that is set
 pub flag_set : (flags : List Bool) (l : ℕ) (d : Bool) → l < length flags → (m : ℕ)
@@ -77,66 +69,62 @@ flag_more flags l d test inside before is m within = by (cases_eq m l)
         let apart : m ≢ l = other in
         get_or-set_other flags l m d false other ∙ before m (omega arith)
 
-module _ (a b : Network) (s l : ℕ) (rows : RowsValue) (awaited : List Bool) (at : AreAt a b s l rows awaited) where
-  -- the flag at the front tells whether its link is due
-  flag_tells : l < length b.links → flag awaited l ≡ is_due a b s l
-  flag_tells inside = at.flags.flagged l inside ∙ awaits_here a b s l
+-- the sweep whose departures are read, as the front moves on
+read_own : (s l : ℕ) → read_at s (l + 1) l ≡ s
+read_own s l = grind (arith, nat_tests)
 
-  -- so where it is read up, the link is due, and where it is read down, it isn't
-  pub flag_read : l < length b.links → {read : List Bool} → read ≡ awaited → {told up : Bool} → told ≡ flag read l
-      → told ≡ up → is_due a b s l ≡ up
-  flag_read inside read_is is here =
-      sym (flag_tells inside) ∙ ap (λ (fs : List Bool). flag fs l) (sym read_is) ∙ sym is ∙ here
+read_on : (s l m : ℕ) → m ≢ l → read_at s (l + 1) m ≡ read_at s l m
+read_on s l m apart = grind (arith, nat_tests)
 
-  -- after a link's turn the flags are those of the next
-  module _ (links : length a.links ≡ length b.links) (inside : l < length b.links) (own_changed : List Bool)
-      (owned : AreFlags (own_differs a b) (length b.links) own_changed) (readers : List (List ℕ))
-      (all : AreReaders a readers) (d : Bool) (moved : d ≡ differs a b s l) (rs : List ℕ)
-      (are : rs ≡ slice_index_or readers l []) (passed : List Bool) (count : length passed ≡ length awaited)
-      (told : (m : ℕ) → flag passed m
-      ≡ ((if nat_eq m l then flag own_changed l else flag awaited m) || (d && list_any (nat_eq m) rs))) where
-    read_is : (m : ℕ) → m < length b.links
-        → (d && list_any (nat_eq m) rs) ≡ (differs a b s l && reads (places_at a m) l)
-    read_is m there =
-        ap (λ t. t && list_any (nat_eq m) rs) moved
-        ∙ ap (λ t. differs a b s l && t)
-        (ap (list_any (nat_eq m)) are ∙ all.read l m (omega (arith, links)) (omega (arith, links)))
+read_turn : (s links m : ℕ) → m < links → read_at s links m ≡ read_at (s + 1) 0 m
+read_turn s links m inside = grind (arith, nat_tests)
 
-    pub flags_passed : AreFlags (awaits a b s (l + 1)) (length b.links) passed
-    flags_passed = record { count = count ∙ at.flags.count; flagged = λ m there. by m there (cases_eq m l) }
-      where
-        by : (m : ℕ) → m < length b.links → (m ≡ l) ⊎ (m ≡ l → ⊥) → flag passed m ≡ awaits a b s (l + 1) m
-        by m there (inl here) =
-            told m
-            ∙ ap (λ t. (if t then flag own_changed l else flag awaited m) || (d && list_any (nat_eq m) rs))
-            (same_number_eq m l here)
-            ∙ ap (λ t. t || (d && list_any (nat_eq m) rs)) (owned.flagged l inside)
-            ∙ ap (λ t. own_differs a b l || t) (read_is m there)
-            ∙ ap (λ k. own_differs a b l || (differs a b s l && reads (places_at a k) l)) here
-            ∙ sym (awaits_own a b s l)
-            ∙ ap (awaits a b s (l + 1)) (sym here)
-        by m there (inr other) =
-            let apart : m ≢ l = other in
-            told m
-            ∙ ap (λ t. (if t then flag own_changed l else flag awaited m) || (d && list_any (nat_eq m) rs))
-            (other_number_eq m l apart)
-            ∙ ap (λ t. t || (d && list_any (nat_eq m) rs)) (at.flags.flagged m there)
-            ∙ ap (λ t. awaits a b s l m || t) (read_is m there)
-            ∙ sym (awaits_on a b s l m apart)
+module _ (a b : Network) (s l : ℕ) (rows : RowsValue) (changed : List Bool) (at : AreAt a b s l rows changed) where
+  -- the flags tell whether the link at the front is due
+  pub due_told : SameShape a b → l < length b.links → (own : Bool) → own ≡ own_differs a b l
+      → (own || list_any (flag changed) (places_at a l).feeders || option_map_or (flag changed) (places_at a l).rule false)
+      ≡ is_due a b s l
+  due_told same inside own owned =
+      let read = reads_inside a b same l (length b.links) inside refl in
+      let tests = read_differs a b s l in
+      ap (λ x. x || list_any (flag changed) (places_at a l).feeders
+      || option_map_or (flag changed) (places_at a l).rule false) owned
+      ∙ ap (λ x. own_differs a b l || x || option_map_or (flag changed) (places_at a l).rule false)
+      (any_same (flag changed) tests (length b.links) at.flags.flagged (places_at a l).feeders read.0)
+      ∙ ap (λ x. own_differs a b l || list_any tests (places_at a l).feeders || x)
+      (one_same (flag changed) tests (length b.links) at.flags.flagged (places_at a l).rule read.1)
+
+  -- after a link's turn its flag is that of its departures
+  pub flags_put : l < length b.links → (d : Bool) → d ≡ differs a b s l
+      → AreFlags (read_differs a b s (l + 1)) (length b.links) (set changed l d)
+  flags_put inside d told = record {
+    count = length-set changed l d ∙ at.flags.count;
+    flagged = λ m there. by m there (cases_eq m l);
+  }
+    where
+      by : (m : ℕ) → m < length b.links → (m ≡ l) ⊎ (m ≡ l → ⊥)
+          → flag (set changed l d) m ≡ read_differs a b s (l + 1) m
+      by m there (inl here) =
+          get_or-set_at changed l m d false here (omega (arith, inside, at.flags.count))
+          ∙ told
+          ∙ ap (λ t. differs a b t l) (sym (read_own s l))
+          ∙ ap (read_differs a b s (l + 1)) (sym here)
+      by m there (inr other) =
+          let apart : m ≢ l = other in
+          get_or-set_other changed l m d false other
+          ∙ at.flags.flagged m there
+          ∙ ap (λ t. differs a b t m) (sym (read_on s l m apart))
 
   -- at the end of a sweep the next begins
-  pub turned_sweep : SameShape a b → length b.links ≡ l → AreAt a b (s + 1) 0 rows awaited
-  turned_sweep same all = record {
+  pub turned_sweep : length b.links ≡ l → AreAt a b (s + 1) 0 rows changed
+  turned_sweep all = record {
     outs = mixed_turn b (out_of b) (out_of a) s l rows all at.outs;
     shown = shown_turn b (evaluated b) (evaluated a) s l rows at.shown all;
     flags = record {
       count = at.flags.count;
       flagged = λ m inside.
-          let links = shape_count a b same in
-          let some : 0 < length a.links = omega (arith, inside) in
           at.flags.flagged m inside
-          ∙ awaits_turn a b m l (feeders_inside a m l (places_at a m) some (links ∙ all) refl)
-          (rule_inside a m l (places_at a m) some (links ∙ all) refl) s (omega (arith, inside, all));
+          ∙ ap (λ t. differs a b t m) (read_turn s l m (omega (arith, inside, all)));
     };
   }
 
@@ -145,26 +133,25 @@ module _ (a b : Network) (s l : ℕ) (rows : RowsValue) (awaited : List Bool) (a
     pub row_before : out_at rows s l ≡ out_of a s l
     row_before = mixed_here b (out_of b) (out_of a) s l rows at.outs swept inside
 
-    -- a link that is due is worked out
-    pub turned_worked : AreRows rows → (c : CellValue) → c ≡ cell_at b s l → (passed : List Bool)
-        → AreFlags (awaits a b s (l + 1)) (length b.links) passed
-        → AreAt a b s (l + 1) (placed rows s l c) passed
-    turned_worked kept c made passed flags =
-        let out : c.out ≡ out_of b s l = ap (λ (v : CellValue). v.out) made ∙ sym (out_of_pair b s l first) in
-        record {
-          outs = mixed_placed b (out_of b) (out_of a) s l rows at.outs kept c swept inside out;
-          shown = shown_placed b (evaluated b) (evaluated a) s l rows at.shown at.outs.fits kept c swept inside
-              (λ last. made ∙ ap (λ t. cell_at b t l) (sym last) ∙ sym (evaluated_is b l));
-          flags = flags;
-        }
-
     -- whether its departures differ is told by its rows
-    pub differs_told : (c : CellValue) → c ≡ cell_at b s l → (d : Bool) → d ≡ not (bytes_eq (out_at rows s l) c.out)
+    differs_told : (c : CellValue) → c ≡ cell_at b s l → (d : Bool) → d ≡ not (bytes_eq (out_at rows s l) c.out)
         → d ≡ differs a b s l
     differs_told c made d told =
         let out : c.out ≡ out_of b s l = ap (λ (v : CellValue). v.out) made ∙ sym (out_of_pair b s l first) in
         told ∙ ap (λ x. not (bytes_eq x c.out)) row_before ∙ ap (λ x. not (bytes_eq (out_of a s l) x)) out
         ∙ sym (differs_is a b s l)
+
+    -- a link that is due is worked out
+    pub turned_worked : AreRows rows → (c : CellValue) → c ≡ cell_at b s l → (d : Bool)
+        → d ≡ not (bytes_eq (out_at rows s l) c.out) → AreAt a b s (l + 1) (placed rows s l c) (set changed l d)
+    turned_worked kept c made d told =
+        let out : c.out ≡ out_of b s l = ap (λ (v : CellValue). v.out) made ∙ sym (out_of_pair b s l first) in
+        record {
+          outs = mixed_placed b (out_of b) (out_of a) s l rows at.outs kept c swept inside out;
+          shown = shown_placed b (evaluated b) (evaluated a) s l rows at.shown at.outs.fits kept c swept inside
+              (λ last. made ∙ ap (λ t. cell_at b t l) (sym last) ∙ sym (evaluated_is b l));
+          flags = flags_put inside d (differs_told c made d told);
+        }
 
     module _ (none : is_due a b s l ≡ false) where
       inside_before : l < length a.links
@@ -181,11 +168,6 @@ module _ (a b : Network) (s l : ℕ) (rows : RowsValue) (awaited : List Bool) (a
           equal : (xs : List ℕ) → not (bytes_eq xs xs) ≡ false
           equal xs = ap not ((bytes_eq-Decides xs xs).1 refl)
 
-      own_same : own_differs a b l ≡ false
-      own_same =
-          own_down (own_differs a b l) (list_any (read_differs a b s l) (places_at a l).feeders)
-          (option_map_or (read_differs a b s l) (places_at a l).rule false) none
-
       weighed_here : b.frame.sweeps ≡ s → shown_at (with_weights rows b l) l ≡ evaluated b l
       weighed_here last =
           let now : shown_at rows l ≡ evaluated a l = shown_now b (evaluated b) (evaluated a) s l rows at.shown last
@@ -199,30 +181,13 @@ module _ (a b : Network) (s l : ℕ) (rows : RowsValue) (awaited : List Bool) (a
           ∙ sym (evaluated_is b l)
 
       -- a link that isn't due is left
-      pub turned_left : AreAt a b s (l + 1) (left_at b s l rows) awaited
+      pub turned_left : AreAt a b s (l + 1) (left_at b s l rows) (set changed l false)
       turned_left = record {
         outs = outs (s == b.frame.sweeps);
         shown = shown (cases_eq b.frame.sweeps s);
-        flags = record { count = at.flags.count; flagged = λ m there. stays m there (cases_eq m l) };
+        flags = flags_put inside false not_differs;
       }
         where
-          -- its flag is down, and so are its own data's
-          stays : (m : ℕ) → m < length b.links → (m ≡ l) ⊎ (m ≡ l → ⊥) → flag awaited m ≡ awaits a b s (l + 1) m
-          stays m there (inl here) =
-              ap (flag awaited) here
-              ∙ flag_tells inside
-              ∙ none
-              ∙ sym (awaits_own a b s l
-              ∙ ap (λ t. t || (differs a b s l && reads (places_at a l) l)) own_same
-              ∙ ap (λ t. t && reads (places_at a l) l) (sym not_differs))
-              ∙ ap (awaits a b s (l + 1)) (sym here)
-          stays m there (inr other) =
-              let apart : m ≢ l = other in
-              at.flags.flagged m there
-              ∙ sym (awaits_on a b s l m apart
-              ∙ ap (λ t. awaits a b s l m || (t && reads (places_at a m) l)) (sym not_differs)
-              ∙ or_false (awaits a b s l m))
-
           outs : (w : Bool) → AreMixed b (out_of b) (out_of a) s (l + 1) (if w then with_weights rows b l else rows)
           outs true =
               mixed_figures b (out_of b) (out_of a) s (l + 1) rows
@@ -248,9 +213,9 @@ module _ (a b : Network) (s l : ℕ) (rows : RowsValue) (awaited : List Bool) (a
               (λ k there apart. refl))
 
 -- after the last sweep the rows are the evaluation
-pub ended : (a b : Network) (rows : RowsValue) (awaited : List Bool) → AreAt a b (b.frame.sweeps + 1) 0 rows awaited
+pub ended : (a b : Network) (rows : RowsValue) (changed : List Bool) → AreAt a b (b.frame.sweeps + 1) 0 rows changed
     → AreEvaluation b rows
-ended a b rows awaited at = record {
+ended a b rows changed at = record {
   fits = at.outs.fits;
   outs = λ s l swept inside. at.outs.outs s l swept inside
       ∙ ap (λ w. cond w (out_of b s l) (out_of a s l)) (before_end s l b.frame.sweeps swept);

@@ -8,8 +8,7 @@ pub mod MixedLaws
 pub mod DueLaws
 pub mod DueBounds
 pub mod LeftLaws
-pub mod AwaitLaws
-pub mod ReaderLaws
+pub mod FlagLaws
 pub mod FrontLaws
 pub mod TurnLaws
 pub mod StartLaws

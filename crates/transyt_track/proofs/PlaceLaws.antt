@@ -124,9 +124,9 @@ rule_inside net l count places some same is =
 
 -- the entry read from the table is that of the place
 pub place_read : (net : Network) (table : List PlacesValue) (l : ℕ) (p : PlacesValue) → ArePlaces net table
-    → l < length net.links → p ≡ get_or table l p → p ≡ places_at net l
-place_read net table l p all inside at =
-    at ∙ get_or_default table l p (places_at net l) (omega (arith, all.count)) ∙ all.at l inside
+    → l < length net.links → get_or table l p ≡ places_at net l
+place_read net table l p all inside =
+    get_or_default table l p (places_at net l) (omega (arith, all.count)) ∙ all.at l inside
 
 -- a list of values of the first elements, with one more
 pub map_more : {A : Type 0} {B : Type 0} (f : A → B) (xs : List A) (i : ℕ) (d : A) (y : B) → i < length xs

@@ -8,16 +8,11 @@ use Rattle.transyt_parts.specs.Made.{bare_node, bare_feed, bare_link}
 use Rattle.transyt_parts.specs.Valid.{node_number}
 use Rattle.transyt_parts.proofs.CopyLaws.{same_length}
 use Rattle.transyt_net.specs.Parts.{Network, link_of, SameShape}
-use Rattle.transyt_net.specs.Valid.{IsValid, place_of, found_or_first, link_place}
+use Rattle.transyt_net.specs.Valid.{place_of, found_or_first, link_place}
 use Rattle.transyt_track.specs.Own.{feeder_place, rule_place, node_place, places_at, ArePlaces, PlacesValue}
-use Rattle.transyt_track.specs.Readers.{AreReaders, reads}
+use Rattle.transyt_track.specs.Own.{IsRead}
 use Rattle.transyt_track.proofs.OwnLaws.{numbers_same, bare_at}
 use Rattle.transyt_track.proofs.PlaceLaws.{place_read, feeders_inside, rule_inside}
-
--- a link of these, which a network has, is one of at most a thousand
-pub link_few : {net : Network} {links : List LinkValue} → links ≡ net.links → IsValid net → (l : ℕ) → l < length links
-    → l < 1000
-link_few are valid l test = omega (arith, ap length are, valid.sound.link_count)
 
 node_numbers_same : (xs ys : List NodeValue) → map bare_node xs ≡ map bare_node ys
     → map node_number xs ≡ map node_number ys
@@ -46,15 +41,6 @@ rule_place_same : (a b : Network) → ((number : ℕ) → link_place a number �
     → (rule : Option GiveWay) → rule_place a rule ≡ rule_place b rule
 rule_place_same a b place None = refl
 rule_place_same a b place (Some rule) = ap (λ p. Some p) (place rule.other)
-
--- a link's places in two networks of one shape, whose feeders and rule are links
-pub record IsRead (a b : Network) (l count : ℕ) (places : PlacesValue) : Type 0 where
-  pub before_count : l < length a.links
-  pub after_count : l < length b.links
-  pub before : places ≡ places_at a l
-  pub after : places ≡ places_at b l
-  pub feeders : All (λ j. j < count) places.feeders
-  pub rule : IfSome places.rule (λ j. j < count)
 
 module _ (a b : Network) (same : SameShape a b) where
   pub shape_frame : a.frame ≡ b.frame
@@ -89,14 +75,6 @@ module _ (a b : Network) (same : SameShape a b) where
       ∙ ap (λ (x : LinkValue). rule_place b x.gives_way) bare in
       (λ j. record { node = node j; feeders = feeders j; rule = rule j })
 
-  -- so the places of a link, read from the table, are its places in both
-  places_read : (places : List PlacesValue) → ArePlaces a places → (l : ℕ) → l < length b.links → (p : PlacesValue)
-      → p ≡ get_or places l p → (p ≡ places_at a l) × (p ≡ places_at b l)
-  places_read places all l inside p at =
-      let there : l < length a.links = omega (arith, shape_count) in
-      let is = place_read a places l p all there at in
-      (is, is ∙ shape_places l there)
-
   -- it reads links of both
   pub reads_inside : (l count : ℕ) → l < length b.links → length b.links ≡ count
       → All (λ j. j < count) (places_at a l).feeders × IfSome (places_at a l).rule (λ j. j < count)
@@ -107,28 +85,21 @@ module _ (a b : Network) (same : SameShape a b) where
         rule_inside a l count (places_at a l) some same_count refl,
       )
 
-  -- so what is read from the table, at a link of the list that b's links are, is a link's in both
-  pub table_read : {places : List PlacesValue} → ArePlaces a places → {links : List LinkValue} → links ≡ b.links
-      → (l : ℕ) → l < length links → {p q : PlacesValue} → p ≡ get_or places l p → q ≡ p → (count : ℕ)
-      → length b.links ≡ count → IsRead a b l count q
-  table_read {places} all {links} are l test {p} {q} at view count is =
-      let below : l < length b.links = omega (arith, ap length are) in
-      let read = places_read places all l below p at in
-      let inside = reads_inside l count below is in
-      let before : q ≡ places_at a l = view ∙ read.0 in
+  -- so what is read from the table is a link's in both
+  pub table_read : (places : List PlacesValue) → ArePlaces a places → (l : ℕ) → l < length b.links → (p : PlacesValue)
+      → IsRead a b l (get_or places l p)
+  table_read places all l inside p =
+      let there : l < length a.links = omega (arith, shape_count) in
+      let is : get_or places l p ≡ places_at a l = place_read a places l p all there in
+      let reads = reads_inside l (length b.links) inside refl in
       record {
-        before_count = omega (arith, shape_count);
-        after_count = below;
-        before = before;
-        after = view ∙ read.1;
-        feeders = subst (λ (x : PlacesValue). All (λ j. j < count) x.feeders) (sym before) inside.0;
-        rule = subst (λ (x : PlacesValue). IfSome x.rule (λ j. j < count)) (sym before) inside.1;
+        inside_before = there;
+        inside = inside;
+        places_before = is;
+        places_after = is ∙ shape_places l there;
+        feeders = subst (λ (x : PlacesValue). All (λ j. j < length b.links) x.feeders) (sym is) reads.0;
+        rule = subst (λ (x : PlacesValue). IfSome x.rule (λ j. j < length b.links)) (sym is) reads.1;
       }
-
-  -- and it stands in the table
-  pub table_inside : {places : List PlacesValue} → ArePlaces a places → {links : List LinkValue} → links ≡ b.links
-      → (l : ℕ) → l < length links → l < length places
-  table_inside all are l test = omega (arith, all.count, shape_count, ap length are)
 
   -- and a table of places serves both
   pub shape_table : (places : List PlacesValue) → ArePlaces a places → ArePlaces b places
@@ -137,14 +108,4 @@ module _ (a b : Network) (same : SameShape a b) where
     at = λ l inside.
         let there : l < length a.links = omega (arith, shape_count) in
         subst (λ p. get_or places l p ≡ p) (shape_places l there) (all.at l there);
-  }
-
-  -- the readers of their links
-  pub shape_readers : (readers : List (List ℕ)) → AreReaders a readers → AreReaders b readers
-  shape_readers readers all = record {
-    count = all.count ∙ shape_count;
-    inside = λ other l here among. omega (arith, all.inside other l (omega (arith, shape_count)) among, shape_count);
-    read = λ other l here there.
-        all.read other l (omega (arith, shape_count)) (omega (arith, shape_count))
-        ∙ ap (λ p. reads p other) (shape_places l (omega (arith, shape_count)));
   }

@@ -1,36 +1,41 @@
 -- Before the first sweep: the links whose total flow lets another profile go are started anew.
-use Rattle.std.proofs.Common.{◌≡◌, ◌≢◌, ℕ, ◌+◌, ◌*◌, ◌/◌, ◌<◌, ◌≤◌, Bool, true, false, cond, not, List, length, set}
-use Rattle.std.proofs.Common.{get_or, refl, ap, sym, ◌∙◌, arith, nat_eq}
+use Rattle.std.proofs.Common.{◌≡◌, ◌≢◌, ℕ, ◌+◌, ◌*◌, ◌/◌, ◌<◌, ◌≤◌, Bool, true, false, cond, not, List, length}
+use Rattle.std.proofs.Common.{get_or, refl, ap, sym, subst, ◌∙◌, arith, nat_eq, zero, suc}
 use Rattle.std.proofs.Common.{◌⊎◌, inl, inr}
 use Rattle.std.specs.Str.{bytes_eq}
+use Rattle.std.specs.List.{list_any}
 use Rattle.std.specs.Cmp.Lexicographic.{same_text}
 use Rattle.std.proofs.lemmas.Slice.Eq.{bytes_eq-Decides}
 use Rattle.std.proofs.Math.Nat.{div-mul-le_self, lt-div-mul-add, lt_of_mul-lt-mul_right, mul-le-mul_right}
 use Rattle.std.proofs.lemmas.Bool.{cases_eq, cases_lt}
 use Rattle.std.proofs.lemmas.Bool.Decides.{nat_tests}
-use Rattle.std.proofs.lemmas.List.{length-set, get_or-replicate, get_or-set_other}
-use Rattle.std.proofs.lemmas.Grind.{get_or-set_at}
+use Rattle.std.proofs.lemmas.List.{get_or-replicate}
 use Rattle.transyt_profile.specs.Profile.{uniform}
 use Rattle.transyt_parts.specs.declared.frame.Frame.{Frame}
 use Rattle.transyt_parts.specs.Parts.{total_flow}
 use Rattle.transyt_parts.specs.Valid.{IsFrame}
 use Rattle.transyt_net.specs.Parts.{Network, link_of, no_link, SameShape, perstep}
-use Rattle.transyt_sweep.specs.Sweeps.{out_of, start, evaluated}
+use Rattle.transyt_sweep.specs.Sweeps.{read_at, out_of, start, evaluated}
 use Rattle.transyt_kept.specs.Rows.{RowsValue, shown_at, with_out, AreRows}
-use Rattle.transyt_sweep.specs.Front.{AreEvaluation, is_before}
+use Rattle.transyt_sweep.specs.Front.{AreEvaluation}
 use Rattle.transyt_sweep.proofs.SweepLaws.{out_of_start}
 use Rattle.transyt_kept.proofs.PairLaws.{out_elsewhere}
-use Rattle.transyt_sweep.proofs.FrontLaws.{mixed_put, mixed_turn, not_before_first}
-use Rattle.transyt_track.specs.Due.{differs}
-use Rattle.transyt_track.specs.Front.{flag, own_differs, total_differs, AreAt, AreFlags, AreStarting, awaits}
-use Rattle.transyt_track.proofs.MixedLaws.{shown_moved, shown_turn, mixed_left}
-use Rattle.transyt_track.proofs.AwaitLaws.{awaits_none}
+use Rattle.transyt_sweep.proofs.FrontLaws.{mixed_put, not_before_first}
+use Rattle.transyt_track.specs.Own.{places_at}
+use Rattle.transyt_track.specs.Due.{differs, read_differs}
+use Rattle.transyt_track.specs.Front.{flag, own_differs, total_differs, AreAt, AreFlags, AreFlagged}
+use Rattle.transyt_track.proofs.MixedLaws.{shown_moved, mixed_left}
+use Rattle.transyt_track.proofs.FlagLaws.{any_same, or_false}
+use Rattle.transyt_track.proofs.FrontLaws.{turned_sweep}
+use Rattle.transyt_track.proofs.CompareLaws.{none_up, none_of}
+use Rattle.transyt_track.proofs.ChangeLaws.{own_flag}
 use Rattle.transyt_track.proofs.RuleLaws.{same_number}
 use Rattle.transyt_track.proofs.DueLaws.{same_out, differs_is}
-use Rattle.transyt_track.proofs.ShapeLaws.{shape_count, shape_frame}
+use Rattle.transyt_track.proofs.ShapeLaws.{shape_count, shape_frame, shape_places, reads_inside}
 
-before_first : (t k : ℕ) → t ≡ 0 → is_before t k 1 0 ≡ true
-before_first t k first = grind (arith, nat_tests)
+-- before the first sweep the same departures are read all along
+read_first : (l m : ℕ) → read_at 0 l m ≡ 0
+read_first l m = grind (arith, nat_tests)
 
 -- two uniform profiles differ where their values do
 uniform_told : (n x y : ℕ) → 1 ≤ n → bytes_eq (uniform n x) (uniform n y) ≡ nat_eq x y
@@ -102,9 +107,9 @@ module _ (a b : Network) (same : SameShape a b) where
       ∙ start_differs l (omega (arith, range.step_count.0))
 
   -- before any link is started
-  pub started_none : (rows : RowsValue) (changed : List Bool) → AreEvaluation a rows → length changed ≡ length b.links
-      → AreStarting a b 0 rows changed
-  started_none rows changed evaluation count = record {
+  pub start_at : IsFrame b.frame → (rows : RowsValue) (own_changed out_changed : List Bool) → AreEvaluation a rows
+      → AreFlagged a b own_changed out_changed → AreAt a b 0 0 rows out_changed
+  start_at range rows own_changed out_changed evaluation flagged = record {
     outs = record {
       fits = record {
         step_count = evaluation.fits.step_count ∙ ap (λ (f : Frame). f.step_count) (shape_frame a b same);
@@ -120,112 +125,83 @@ module _ (a b : Network) (same : SameShape a b) where
           evaluation.shown k (omega (arith, shape_count a b same))
           ∙ sym (ap (λ w. cond w (evaluated b k) (evaluated a k)) (not_before_first b.frame.sweeps k 0 (omega arith)));
     };
-    count = count;
-    flagged = λ m none. absurd (omega arith);
+    flags = record {
+      count = flagged.totals.count;
+      flagged = λ m inside.
+          flagged.totals.flagged m inside ∙ total_start range m ∙ ap (λ t. differs a b t m) (sym (read_first 0 m));
+    };
   }
     where
       sweeps : a.frame.sweeps ≡ b.frame.sweeps
       sweeps = ap (λ (f : Frame). f.sweeps) (shape_frame a b same)
 
-  module _ (l : ℕ) (rows : RowsValue) (changed : List Bool) (starting : AreStarting a b l rows changed)
+  module _ (l : ℕ) (rows : RowsValue) (changed : List Bool) (at : AreAt a b 0 l rows changed)
       (inside : l < length b.links) (some : 1 ≤ b.frame.sweeps) where
-    flags_more : (d : Bool) → d ≡ differs a b 0 l → (m : ℕ) → m < l + 1 → flag (set changed l d) m ≡ differs a b 0 m
-    flags_more d is m before = by (cases_eq m l)
-      where
-        by : (m ≡ l) ⊎ (m ≡ l → ⊥) → flag (set changed l d) m ≡ differs a b 0 m
-        by (inl here) =
-            get_or-set_at changed l m d false here (omega (arith, starting.count)) ∙ is ∙ sym (ap (differs a b 0) here)
-        by (inr other) =
-            let apart : m ≢ l = other in
-            get_or-set_other changed l m d false other ∙ starting.flagged m (omega arith)
+    flags_on : AreFlags (read_differs a b 0 (l + 1)) (length b.links) changed
+    flags_on = record {
+      count = at.flags.count;
+      flagged = λ m there.
+          at.flags.flagged m there ∙ ap (λ t. differs a b t m) (read_first l m ∙ sym (read_first (l + 1) m));
+    }
 
     shown_out : (k : ℕ) → k < length b.links → shown_at (with_out rows 0 l (start b l)) k ≡ shown_at rows k
     shown_out k there =
-        let out = out_elsewhere rows 0 l (omega (arith, starting.outs.fits.link_count)) (start b l) rows.sweeps k
-        (omega (arith, starting.outs.fits.link_count)) (λ e _. absurd (omega (arith, e, starting.outs.fits.sweeps))) in
+        let out = out_elsewhere rows 0 l (omega (arith, at.outs.fits.link_count)) (start b l) rows.sweeps k
+        (omega (arith, at.outs.fits.link_count)) (λ e _. absurd (omega (arith, e, at.outs.fits.sweeps))) in
         ap (λ x. record (shown_at rows k) { out = x }) out
 
-    -- one link more, which is started where it differs
-    pub started_put : AreRows rows → differs a b 0 l ≡ true
-        → AreStarting a b (l + 1) (with_out rows 0 l (start b l)) (set changed l true)
-    started_put kept moves = record {
-      outs = mixed_put b (out_of b) (out_of a) 0 l rows starting.outs kept (start b l) (omega arith) inside
+    -- one link more, which is started where its flag is up
+    pub started_put : AreRows rows → AreAt a b 0 (l + 1) (with_out rows 0 l (start b l)) changed
+    started_put kept = record {
+      outs = mixed_put b (out_of b) (out_of a) 0 l rows at.outs kept (start b l) (omega arith) inside
           (sym (out_of_start b l));
-      shown = shown_moved b (evaluated b) (evaluated a) 0 l rows starting.shown (with_out rows 0 l (start b l)) inside
+      shown = shown_moved b (evaluated b) (evaluated a) 0 l rows at.shown (with_out rows 0 l (start b l)) inside
           (λ last. absurd (omega (arith, last))) (λ k there _. shown_out k there);
-      count = length-set changed l true ∙ starting.count;
-      flagged = flags_more true (sym moves);
+      flags = flags_on;
     }
 
     -- and else left
-    pub started_left : differs a b 0 l ≡ false → AreStarting a b (l + 1) rows (set changed l false)
-    started_left none = record {
-      outs = mixed_left b (out_of b) (out_of a) 0 l rows starting.outs (sym (same_out a b 0 l none));
-      shown = shown_moved b (evaluated b) (evaluated a) 0 l rows starting.shown rows inside
-          (λ last. absurd (omega (arith, last))) (λ k there _. refl);
-      count = length-set changed l false ∙ starting.count;
-      flagged = flags_more false (sym none);
-    }
+    pub started_left : flag changed l ≡ false → AreAt a b 0 (l + 1) rows changed
+    started_left none =
+        let stays : differs a b 0 l ≡ false =
+        ap (λ t. differs a b t l) (sym (read_first l l)) ∙ sym (at.flags.flagged l inside) ∙ none in
+        record {
+          outs = mixed_left b (out_of b) (out_of a) 0 l rows at.outs (sym (same_out a b 0 l stays));
+          shown = shown_moved b (evaluated b) (evaluated a) 0 l rows at.shown rows inside
+              (λ last. absurd (omega (arith, last))) (λ k there _. refl);
+          flags = flags_on;
+        }
 
-  -- after the last link the first sweep begins
-  pub started_end : (l : ℕ) (rows : RowsValue) (changed awaited : List Bool) → length b.links ≡ l
-      → AreStarting a b l rows changed → AreFlags (awaits a b 1 0) (length b.links) awaited → AreAt a b 1 0 rows awaited
-  started_end l rows changed awaited all starting flags = record {
-    outs = mixed_turn b (out_of b) (out_of a) 0 l rows all starting.outs;
-    shown = shown_turn b (evaluated b) (evaluated a) 0 l rows starting.shown all;
-    flags = flags;
+  -- where no flag is up, the first sweep begins with the rows as they are
+  module _ (rows : RowsValue) (changed : List Bool) (at : AreAt a b 0 0 rows changed) (some : 1 ≤ b.frame.sweeps)
+      (none : list_any (λ f. f) changed ≡ false) where
+    left_to : (l : ℕ) → l ≤ length b.links → AreAt a b 0 l rows changed
+    left_to zero within = at
+    left_to (suc l) within =
+        subst (λ n. AreAt a b 0 n rows changed) (omega arith)
+        (started_left l rows changed (left_to l (omega arith)) (omega arith) some (none_up changed none l))
+
+    pub none_started : AreAt a b 1 0 rows changed
+    none_started =
+        turned_sweep a b 0 (length b.links) rows changed (left_to (length b.links) (omega arith)) refl
+
+  -- and the flags of the data are those of all own data
+  pub none_fed : {own_changed out_changed : List Bool} → AreFlagged a b own_changed out_changed
+      → list_any (λ f. f) out_changed ≡ false → AreFlags (own_differs a b) (length b.links) own_changed
+  none_fed {own_changed} {out_changed} flagged none = record {
+    count = flagged.count;
+    flagged = λ l inside.
+        let places = shape_places a b same l (omega (arith, shape_count a b same)) in
+        let feeders = (places_at a l).feeders in
+        sym (or_false (flag own_changed l))
+        ∙ own_flag a b l places (flag own_changed l) false (flagged.own.down l inside)
+        (sym (none_of out_changed none feeders)
+        ∙ any_same (flag out_changed) (total_differs a b) (length b.links) flagged.totals.flagged feeders
+        (reads_inside a b same l (length b.links) inside refl).0);
   }
 
-  -- where the links are equal, nothing differs before the first sweep, and no total flow does
-  pub links_start : a.links ≡ b.links → (l : ℕ) → differs a b 0 l ≡ false
-  links_start links l =
-      differs_is a b 0 l
-      ∙ ap (λ xs. not (bytes_eq xs (out_of b 0 l))) (out_of_start a l)
-      ∙ ap (λ xs. not (bytes_eq (start a l) xs)) (out_of_start b l)
-      ∙ ap (λ (f : Frame). not (bytes_eq (uniform f.step_count (perstep f (total_flow (link_of a l)))) (start b l)))
-      (shape_frame a b same)
-      ∙ ap (λ ls. not (bytes_eq (uniform b.frame.step_count (perstep b.frame (total_flow (get_or ls l no_link)))) (start b l)))
-      links
-      ∙ ap not ((bytes_eq-Decides (start b l) (start b l)).1 refl)
-
+  -- where the links are equal, no total flow differs
   pub links_totals : a.links ≡ b.links → (l : ℕ) → total_differs a b l ≡ false
   links_totals links l =
       ap (λ ls. not (nat_eq (total_flow (get_or ls l no_link)) (total_flow (link_of b l)))) links
       ∙ ap not (same_number (total_flow (link_of b l)))
-
-  -- so the first sweep begins with the rows as they are
-  pub set_out_at : a.links ≡ b.links → (rows : RowsValue) (awaited : List Bool) → AreEvaluation a rows
-      → AreFlags (own_differs a b) (length b.links) awaited → 1 ≤ b.frame.sweeps → AreAt a b 1 0 rows awaited
-  set_out_at links rows awaited evaluation owned some =
-      let none = started_none rows awaited evaluation owned.count in
-      record {
-        outs = record {
-          fits = none.outs.fits;
-          outs = λ t k within there. none.outs.outs t k within there ∙ first t k (cases_eq t 0);
-        };
-        shown = record {
-          shown = λ k there.
-              none.shown.shown k there
-              ∙ ap (λ w. cond w (evaluated b k) (evaluated a k))
-              (not_before_first b.frame.sweeps k 0 (omega arith)
-              ∙ sym (not_before_first b.frame.sweeps k 1 some));
-        };
-        flags = record {
-          count = owned.count;
-          flagged = λ m inside. owned.flagged m inside ∙ awaits_none a b (links_start links) m;
-        };
-      }
-    where
-      first : (t k : ℕ) → (t ≡ 0) ⊎ (t ≡ 0 → ⊥)
-          → cond (is_before t k 0 0) (out_of b t k) (out_of a t k)
-          ≡ cond (is_before t k 1 0) (out_of b t k) (out_of a t k)
-      first t k (inl here) =
-          ap (λ w. cond w (out_of b t k) (out_of a t k)) (not_before_first t k 0 (omega arith))
-          ∙ ap (λ u. out_of a u k) here
-          ∙ same_out a b 0 k (links_start links k)
-          ∙ sym (ap (λ u. out_of b u k) here)
-          ∙ sym (ap (λ w. cond w (out_of b t k) (out_of a t k)) (before_first t k here))
-      first t k (inr later) =
-          let apart : t ≢ 0 = later in
-          ap (λ w. cond w (out_of b t k) (out_of a t k))
-          (not_before_first t k 0 (omega arith) ∙ sym (not_before_first t k 1 (omega (arith, apart))))

@@ -1,5 +1,5 @@
 -- The invariant of a tracker stays, since each call follows a network of the same shape.
-use Rattle.std.proofs.Common.{◌≡◌, ℕ, List, Option, Some, None, IsSome, refl, ap, sym, subst, ◌∙◌}
+use Rattle.std.proofs.Common.{◌≡◌, List, Option, Some, None, IsSome, refl, ap, sym, subst, ◌∙◌}
 use Rattle.std.specs.Option.{option_map}
 use Rattle.transyt_parts.specs.declared.frame.Frame.{Frame}
 use Rattle.transyt_net.specs.Parts.{Network, shape, SameShape}
@@ -9,11 +9,10 @@ use Rattle.transyt_sweep.specs.Front.{AreEvaluation}
 use Rattle.transyt_kept.specs.Marked.{KeptValue}
 use Rattle.transyt_track.specs.Own.{PlacesValue, ArePlaces, all_places}
 use Rattle.transyt_track.specs.Change.{HasRoom}
-use Rattle.transyt_track.specs.Readers.{AreReaders}
 use Rattle.transyt_track.specs.declared.change.Front.{Front}
 use Rattle.transyt_track.specs.Due.{due}
 use Rattle.transyt_track.specs.Tracker.{TrackerValue, AreOfMark, IsTracking}
-use Rattle.transyt_track.proofs.ShapeLaws.{shape_frame, shape_count, shape_table, shape_readers}
+use Rattle.transyt_track.proofs.ShapeLaws.{shape_frame, shape_count, shape_table}
 use Rattle.transyt_track.proofs.PlaceLaws.{all_places_are}
 
 -- the networks of two trackers have one shape where those of their values have
@@ -53,10 +52,10 @@ closed_mark : (mark : Option RowsValue) (marked : Network) → mark ≡ None →
 closed_mark mark marked closed = subst (AreOfMark marked) (sym closed) tt
 
 -- a new tracker
-pub opened_tracks : (net marked : Network) (front : Front) (places : List PlacesValue) (readers : List (List ℕ))
-    → marked ≡ net → AreEvaluation net front.kept.now → front.kept.marked ≡ None → places ≡ all_places net
-    → AreReaders net readers → HasRoom net front → IsTracking net marked front places readers
-opened_tracks net marked front places readers copied evaluation closed all reading room =
+pub opened_tracks : (net marked : Network) (front : Front) (places : List PlacesValue) → marked ≡ net
+    → AreEvaluation net front.kept.now → front.kept.marked ≡ None → places ≡ all_places net → HasRoom net front
+    → IsTracking net marked front places
+opened_tracks net marked front places copied evaluation closed all room =
     let same : SameShape net marked = sym (ap shape copied) in
     assumption (
       same,
@@ -64,23 +63,22 @@ opened_tracks net marked front places readers copied evaluation closed all readi
       subst (ArePlaces net) (sym all) (all_places_are net),
     )
 
-module _ (net marked : Network) (front : Front) (places : List PlacesValue) (readers : List (List ℕ))
-    (tracking : IsTracking net marked front places readers) where
+module _ (net marked : Network) (front : Front) (places : List PlacesValue)
+    (tracking : IsTracking net marked front places) where
   -- the rows have gone over to another network
   followed_tracks : (after : Network) → SameShape net after → (new : Front) → AreEvaluation after new.kept.now
-      → new.kept.marked ≡ front.kept.marked → HasRoom after new → IsTracking after marked new places readers
+      → new.kept.marked ≡ front.kept.marked → HasRoom after new → IsTracking after marked new places
   followed_tracks after same new evaluation stays room =
       let shapes : SameShape after marked = sym same ∙ tracking.shape in
       assumption (
         shapes,
         subst (AreOfMark marked) (sym stays) tracking.back,
         shape_table net after same places tracking.table,
-        shape_readers net after same readers tracking.reading,
       )
 
   -- a mark is set
   pub begun_tracks : IsTracking net net (record front { kept = record front.kept { marked = Some front.kept.now } })
-      places readers
+      places
   begun_tracks =
       let same : SameShape net net = refl in
       let room = tracking.room in
@@ -89,14 +87,13 @@ module _ (net marked : Network) (front : Front) (places : List PlacesValue) (rea
         evaluation = tracking.evaluation;
         back = tracking.evaluation;
         table = tracking.table;
-        reading = tracking.reading;
         room = record { own_count = room.own_count; count = room.count; steps = room.steps };
       }
 
   -- the rows are those of another network, and no mark is open
   pub closed_tracks : (after other : Network) → SameShape net after → SameShape after other → (kept : KeptValue)
       → AreEvaluation after kept.now → kept.marked ≡ None
-      → IsTracking after other (record front { kept = kept }) places readers
+      → IsTracking after other (record front { kept = kept }) places
   closed_tracks after other same same_other kept evaluation closed =
       let room = room_shape net after same front tracking.room in
       record {
@@ -104,13 +101,11 @@ module _ (net marked : Network) (front : Front) (places : List PlacesValue) (rea
         evaluation = evaluation;
         back = closed_mark kept.marked other closed;
         table = shape_table net after same places tracking.table;
-        reading = shape_readers net after same readers tracking.reading;
         room = record { own_count = room.own_count; count = room.count; steps = room.steps };
       }
 
 -- a tracker goes over to another network with the shape of that of its value
-module _ {was now : TrackerValue} (view : was ≡ now) {marked : Network} {front : Front} {places : List PlacesValue}
-    {readers : List (List ℕ)} (tracking : IsTracking was.net marked front places readers) (after : Network)
+module _ {was now : TrackerValue} (view : was ≡ now) {marked : Network} {front : Front} {places : List PlacesValue} (tracking : IsTracking was.net marked front places) (after : Network)
     (same : SameShape now.net after) where
   -- its own has that shape too
   pub follow_shape : SameShape was.net after
@@ -126,6 +121,6 @@ module _ {was now : TrackerValue} (view : was ≡ now) {marked : Network} {front
 
   -- its rows are those of that network
   pub follow_tracks : {new : Front} → AreEvaluation after new.kept.now → new.kept.marked ≡ front.kept.marked
-      → HasRoom after new → IsTracking after marked new places readers
+      → HasRoom after new → IsTracking after marked new places
   follow_tracks {new} =
-      followed_tracks was.net marked front places readers tracking after follow_shape new
+      followed_tracks was.net marked front places tracking after follow_shape new

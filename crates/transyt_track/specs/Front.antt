@@ -1,8 +1,6 @@
 -- The rows while they go over from the evaluation of one network to that of another network with its shape.
-use Rattle.std.specs.Prelude.{◌≡◌, ◌↔◌, ℕ, ◌<◌, ◌≤◌, ◌==◌, Bool, false, not, ◌&&◌, ◌||◌, nat_eq, nat_lt, List, length}
+use Rattle.std.specs.Prelude.{◌≡◌, ◌↔◌, ℕ, ◌<◌, ◌≤◌, ◌==◌, Bool, false, not, nat_eq, List, length}
 use Rattle.std.specs.Prelude.{slice_index_or, if◌then◌else◌}
-use Rattle.std.specs.List.{list_any}
-use Rattle.std.specs.Option.{option_map_or}
 use Rattle.transyt_parts.specs.Parts.{total_flow}
 use Rattle.transyt_net.specs.Parts.{Network, link_of}
 use Rattle.transyt_kept.specs.Cell.{CellValue}
@@ -10,8 +8,8 @@ use Rattle.transyt_sweep.specs.Sweeps.{out_of, evaluated}
 use Rattle.transyt_kept.specs.Rows.{RowsValue, shown_at}
 use Rattle.transyt_sweep.specs.Reading.{with_weights}
 use Rattle.transyt_sweep.specs.Front.{AreMixed, is_before}
-use Rattle.transyt_track.specs.Own.{own, same_own, places_at}
-use Rattle.transyt_track.specs.Due.{differs, read_differs}
+use Rattle.transyt_track.specs.Own.{own, same_own, HaveData}
+use Rattle.transyt_track.specs.Due.{read_differs}
 
 -- the last sweep is `early` before a link at a sweep, and `late` from it on
 pub record AreShownMixed (net : Network) (early late : ℕ → CellValue) (sweep link : ℕ) (rows : RowsValue) : Type 0
@@ -42,39 +40,19 @@ abbrev pub total_differs : Network → Network → ℕ → Bool
 total_differs before after link =
     not (nat_eq (total_flow (link_of before link)) (total_flow (link_of after link)))
 
--- whether the flag of a place is up that doesn't stand before a link
-abbrev pub flag_from : List Bool → ℕ → ℕ → Bool
-flag_from flags link place = not (nat_lt place link) && flag flags place
-
--- whether the departures that a reader reads next of another are worked out, and differ: where the next turn is that of
--- the link at the front, the other had its own after the reader had, or with it
-abbrev pub has_moved : Network → Network → ℕ → ℕ → ℕ → ℕ → Bool
-has_moved before after sweep front reader other =
-    (if nat_lt other front then not (nat_lt reader front && nat_lt other reader)
-    else not (nat_lt reader front) && not (nat_lt other reader))
-    && read_differs before after sweep front other
-
--- whether a link is known at the front to be due at its next turn: its own data differ, or the departures that it reads
--- next of a feeder or of the link to which it gives way are worked out, and differ
-abbrev pub awaits : Network → Network → ℕ → ℕ → ℕ → Bool
-awaits before after sweep front reader =
-    own_differs before after reader
-    || list_any (has_moved before after sweep front reader) (places_at before reader).feeders
-    || option_map_or (has_moved before after sweep front reader) (places_at before reader).rule false
+-- flags set before the first sweep: those of the links whose own data differ, the total flows of their feeders apart,
+-- and those of the links whose total flow differs
+pub record AreFlagged (before after : Network) (own_changed out_changed : List Bool) : Type 0 where
+  pub count : length own_changed ≡ length after.links
+  pub own : AreDownWhere (HaveData before after) (length after.links) own_changed
+  pub totals : AreFlags (total_differs before after) (length after.links) out_changed
 
 -- THE LAW OF THE FRONT: before a link at a sweep the rows are those of the network after, from it on those of the
--- network before; the flag of each link is up where it is known to be due at its next turn
-pub record AreAt (before after : Network) (sweep link : ℕ) (rows : RowsValue) (awaited : List Bool) : Type 0 where
+-- network before; the flag of each link tells whether the departures that the link at the front reads of it differ
+pub record AreAt (before after : Network) (sweep link : ℕ) (rows : RowsValue) (out_changed : List Bool) : Type 0 where
   pub outs : AreMixed after (out_of after) (out_of before) sweep link rows
   pub shown : AreShownMixed after (evaluated after) (evaluated before) sweep link rows
-  pub flags : AreFlags (awaits before after sweep link) (length after.links) awaited
-
--- before the first sweep, where the flags of the links before the front alone are known
-pub record AreStarting (before after : Network) (link : ℕ) (rows : RowsValue) (changed : List Bool) : Type 0 where
-  pub outs : AreMixed after (out_of after) (out_of before) 0 link rows
-  pub shown : AreShownMixed after (evaluated after) (evaluated before) 0 link rows
-  pub count : length changed ≡ length after.links
-  pub flagged : (other : ℕ) → other < link → flag changed other ≡ differs before after 0 other
+  pub flags : AreFlags (read_differs before after sweep link) (length after.links) out_changed
 
 -- the rows with a link that isn't due left at a sweep: at the last sweep it is weighed anew
 abbrev pub left_at : Network → ℕ → ℕ → RowsValue → RowsValue

@@ -1,5 +1,4 @@
 pub mod Own
-pub mod Readers
 pub mod Due
 pub mod Change
 pub mod WorkedWork

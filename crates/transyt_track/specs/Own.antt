@@ -1,5 +1,6 @@
 -- The own data of a link: all that edits change of its work, departures and weights apart; and which links it reads.
 use Rattle.std.specs.Prelude.{◌≡◌, ℕ, ◌<◌, Bool, ◌&&◌, nat_eq, List, length, map, Option, slice_index_or}
+use Rattle.std.specs.Prelude.{All, IfSome}
 use Rattle.std.specs.Str.{bytes_eq}
 use Rattle.std.specs.List.{range_with_len}
 use Rattle.std.specs.Option.{option_map}
@@ -109,6 +110,15 @@ places_at net link = record {
   feeders = map (feeder_place net) (link_of net link).feeds;
   rule = rule_place net (link_of net link).gives_way;
 }
+
+-- a link's places in two networks of one shape, whose feeders and rule are links
+pub record IsRead (before after : Network) (link : ℕ) (places : PlacesValue) : Type 0 where
+  pub inside_before : link < length before.links
+  pub inside : link < length after.links
+  pub places_before : places ≡ places_at before link
+  pub places_after : places ≡ places_at after link
+  pub feeders : All (λ place. place < length after.links) places.feeders
+  pub rule : IfSome places.rule (λ place. place < length after.links)
 
 -- the places of all links
 abbrev pub all_places : Network → List PlacesValue

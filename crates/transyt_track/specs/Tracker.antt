@@ -1,5 +1,5 @@
 -- A tracker as its contracts see it, and the facts of its parts.
-use Rattle.std.specs.Prelude.{ℕ, List, Option, None, IfSome}
+use Rattle.std.specs.Prelude.{List, Option, None, IfSome}
 use Rattle.std.specs.Option.{option_map}
 use Rattle.transyt_net.specs.Parts.{Network, SameShape}
 use Rattle.transyt_kept.specs.Rows.{RowsValue}
@@ -7,7 +7,6 @@ use Rattle.transyt_sweep.specs.Front.{AreEvaluation}
 use Rattle.transyt_track.specs.declared.change.Front.{Front}
 use Rattle.transyt_track.specs.Own.{PlacesValue, ArePlaces}
 use Rattle.transyt_track.specs.Change.{HasRoom}
-use Rattle.transyt_track.specs.Readers.{AreReaders}
 
 -- a tracker: the network that it stands for, and the one that its open mark stands for, or none
 pub record TrackerValue : Type 0 where
@@ -27,12 +26,9 @@ abbrev pub AreOfMark : Network → Option RowsValue → Type 0
 AreOfMark marked mark = IfSome mark (AreEvaluation marked)
 
 -- the rows are the evaluation of the network, and those of the mark that of the marked one. No public clause cites it.
-pub record IsTracking (net marked : Network) (front : Front) (places : List PlacesValue) (readers : List (List ℕ))
-    : Type 0
-  where
-    pub shape : SameShape net marked
-    pub evaluation : AreEvaluation net front.kept.now
-    pub back : AreOfMark marked front.kept.marked
-    pub table : ArePlaces net places
-    pub reading : AreReaders net readers
-    pub room : HasRoom net front
+pub record IsTracking (net marked : Network) (front : Front) (places : List PlacesValue) : Type 0 where
+  pub shape : SameShape net marked
+  pub evaluation : AreEvaluation net front.kept.now
+  pub back : AreOfMark marked front.kept.marked
+  pub table : ArePlaces net places
+  pub room : HasRoom net front

@@ -1,8 +1,7 @@
 //! The front: the rows go over from one network to another of its shape, a link at a sweep at a time, in order.
 
-ghost use Rattle.std.specs.Prelude.{◌≡◌, ◌+◌, ◌<◌, ◌≤◌, ◌||◌, ◌&&◌, ℕ, not, length, nat_eq, if◌then◌else◌, All};
+ghost use Rattle.std.specs.Prelude.{◌≡◌, ◌+◌, ◌<◌, ◌≤◌, ◌||◌, not, length, if◌then◌else◌};
 ghost use Rattle.std.specs.Str.{bytes_eq};
-ghost use Rattle.std.specs.List.{list_any};
 ghost use Rattle.std.specs.Option.{is_some};
 ghost use Rattle.transyt_net.specs.Parts.{link_of};
 ghost use Rattle.transyt_kept.specs.Rows.{out_at};
@@ -14,12 +13,11 @@ ghost use Rattle.transyt_track.specs.Change.{HasRoom, IsFront};
 ghost use Rattle.transyt_track.specs.Front.{flag};
 
 use crate::change::{Change, Front, Pair};
-use crate::readers::Readers;
+use crate::reading::is_due;
 use crate::replacing::{Differs, leave, place};
 use crate::starting::set_out;
 use std::sync::ledger::Ledger;
 use transyt_kept::Rows;
-use transyt_net::Net;
 use transyt_steps::Steps;
 use transyt_sweep::{Scratch, cell};
 
@@ -45,39 +43,14 @@ fn row_differs(rows: &Rows, sweep: u32, link: usize, scratch: &Scratch) -> bool
     differ(rows.out(sweep, link), scratch.out())
 }
 
-/// A link has had its turn: its flag stays up only for its own data, and where its departures differ the flags of its
-/// readers go up.
-fn pass_on(
-    link: usize,
-    differs: bool,
-    readers: &Readers,
-    own_changed: &[bool],
-    awaited: &mut Vec<bool>,
-)
-    requires link { link < length awaited.old.items }
-    requires own_count { length own_changed.now ≡ length awaited.old.items }
-    requires inside { All (λ r. r < length awaited.old.items) readers.now }
-    ensures count { length awaited.new.items ≡ length awaited.old.items }
-    ensures flags { (other : ℕ) → flag awaited.new.items other
-        ≡ ((if nat_eq other link then flag own_changed.now link else flag awaited.old.items other)
-        || (differs && list_any (nat_eq other) readers.now)) }
-{
-    awaited[link] = own_changed[link];
-    if differs {
-        for reader in &readers.links {
-            awaited[*reader] = true;
-        }
-    }
-}
-
 /// Whether a link's GO may differ: its own data do, or it gives way to another link.
-fn go_may_differ(net: &Net, own_changed: &[bool], link: usize) -> bool
-    requires link { link < length net.now.links }
-    requires count { length own_changed.now ≡ length net.now.links }
-    ensures { result ≡ (flag own_changed.now link || is_some (link_of net.now link).gives_way) }
+fn go_may_differ(pair: &Pair<'_, '_>, own_changed: &[bool]) -> bool
+    requires { length own_changed.now ≡ length pair.now.change.now.after.now.links }
+    ensures { result ≡ (flag own_changed.now pair.now.link
+        || is_some (link_of pair.now.change.now.after.now pair.now.link).gives_way) }
 {
-    let at = net.link(link);
-    own_changed[link] || at.gives_way.is_some()
+    let at = pair.change.after.link(pair.link);
+    own_changed[pair.link] || at.gives_way.is_some()
 }
 
 /// Works a pair out into a scratch. Returns whether its departures differ from those of the rows.
@@ -114,39 +87,13 @@ fn work_out<L: Ledger>(pair: &Pair<'_, '_>, front: &mut Front, steps: &mut Steps
     ensures marked { front.new.kept.marked ≡ front.old.kept.marked }
     ensures steps { steps.new ≡ steps.old + 1 }
 {
-    let after = pair.change.after;
-    let link = pair.link;
-    after.frame();
-    let differs = work_cell(pair, &front.kept, &mut front.scratch, steps);
-    let readers = pair.change.readers;
-    pass_on(
-        link,
-        differs,
-        &readers[link],
-        &front.own_changed,
-        &mut front.awaited,
-    );
-    let go_differs = go_may_differ(after, &front.own_changed, link);
-    place(
-        pair,
-        Differs {
-            out: differs,
-            go: go_differs,
-        },
-        front,
-    );
+    let out = work_cell(pair, &front.kept, &mut front.scratch, steps);
+    let go = go_may_differ(pair, &front.own_changed);
+    front.out_changed[pair.link] = out;
+    place(pair, Differs { out, go }, front);
 }
 
-/// Whether a link's flag is up.
-fn is_awaited(flags: &[bool], link: usize) -> bool
-    requires { link < length flags.now }
-    ensures { result ≡ flag flags.now link }
-{
-    flags[link]
-}
-
-/// One turn: the pair at the front is worked out if its link's flag is up, and else left. Returns how many were worked
-/// out: 1 or 0.
+/// One turn: the pair at the front is worked out if it is due, and else left. Returns how many were worked out: 1 or 0.
 fn turn<L: Ledger>(pair: &Pair<'_, '_>, front: &mut Front, steps: &mut Steps<L>) -> u64
     requires { IsFront pair.now.change.now pair.now.sweep pair.now.link front.old }
     ensures front { IsFront pair.now.change.now pair.now.sweep (pair.now.link + 1) front.new }
@@ -155,10 +102,11 @@ fn turn<L: Ledger>(pair: &Pair<'_, '_>, front: &mut Front, steps: &mut Steps<L>)
         pair.now.sweep pair.now.link then 1 else 0) }
     ensures steps { steps.new ≡ steps.old + result }
 {
-    if is_awaited(&front.awaited, pair.link) {
+    if is_due(pair, front) {
         work_out(pair, front, steps);
         1
     } else {
+        front.out_changed[pair.link] = false;
         leave(pair, &mut front.kept);
         0
     }

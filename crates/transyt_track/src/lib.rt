@@ -8,7 +8,7 @@
 //! The law of the front is `AreAt` of `specs/Front`, that of the mark `AreOfMark` of `specs/Tracker`.
 //!
 //! All memory is taken by `Tracker::open` and `Tracker::twin`: beside its two networks a tracker takes at most
-//! `MOST_BYTES`, 24.4 million bytes. That a plan is evaluated again after each change is from LR 253; which pairs are
+//! `MOST_BYTES`, 24.2 million bytes. That a plan is evaluated again after each change is from LR 253; which pairs are
 //! worked out again, marks are this project's own.
 #![tactic(auto)]
 
@@ -17,7 +17,7 @@ mod found;
 mod front;
 mod laws;
 mod own;
-mod readers;
+mod reading;
 mod replacing;
 mod returning;
 mod room;

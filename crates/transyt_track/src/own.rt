@@ -9,6 +9,7 @@ ghost use Rattle.transyt_track.specs.Own.{all_places, places_at, SameTimes, Same
 ghost use Rattle.transyt_track.specs.Own.{DifferAt};
 ghost use Rattle.transyt_track.specs.Front.{AreDownWhere, total_differs};
 
+use crate::change::ChangedLink;
 use std::alloc::{AllocError, Global};
 use std::marker::Model;
 use transyt_net::{Edit, Feed, GiveWay, Link, Net, Node, Stage};
@@ -90,46 +91,38 @@ pub(crate) fn edited_node(net: &Net, e: &Edit) -> Option<usize>
 /// Whether a link has equal own data in two networks of one shape, the total flows of its feeders apart. The flags of
 /// nodes with equal offsets and changes are down.
 #[tactic(auto, using(crate::proofs::PlaceLaws::node_inside))]
-pub(crate) fn same_data(
-    before: &Net,
-    after: &Net,
-    link: usize,
-    places: &Places,
-    node_changed: &[bool],
-) -> bool
-    requires link { link < length before.now.links }
-    requires link_after { link < length after.now.links }
-    requires places { places.now ≡ places_at before.now link }
-    requires places_after { places.now ≡ places_at after.now link }
-    requires nodes { AreDownWhere (HaveNode before.now after.now) (length after.now.nodes)
+pub(crate) fn same_data(at: &ChangedLink<'_, '_>, node_changed: &[bool]) -> bool
+    requires { AreDownWhere (HaveNode at.now.change.now.before.now at.now.change.now.after.now)
+        (length at.now.change.now.after.now.nodes)
         node_changed.now }
-    ensures { IsTrue result ↔ HaveData before.now after.now link }
+    ensures { IsTrue result ↔ HaveData at.now.change.now.before.now at.now.change.now.after.now
+        at.now.link }
 {
-    let old = link_at(before, link);
-    let new = link_at(after, link);
+    let old = link_at(at.change.before, at.link);
+    let new = link_at(at.change.after, at.link);
+    let places = at.places;
     !node_changed[places.node] && same_numbers(old, new)
 }
 
 /// Whether the total flow of a link differs. Nothing is summed up where `same` tells that its data are equal.
-pub(crate) fn other_total(before: &Net, after: &Net, link: usize, same: bool) -> bool
-    requires link { link < length before.now.links }
-    requires link_after { link < length after.now.links }
-    requires same { IsTrue same ↔ HaveData before.now after.now link }
-    ensures { result ≡ total_differs before.now after.now link }
+pub(crate) fn other_total(at: &ChangedLink<'_, '_>, same: bool) -> bool
+    requires { IsTrue same ↔ HaveData at.now.change.now.before.now at.now.change.now.after.now
+        at.now.link }
+    ensures { result ≡ total_differs at.now.change.now.before.now at.now.change.now.after.now
+        at.now.link }
 {
-    !same && before.total_flow(link) != after.total_flow(link)
+    let change = at.change;
+    !same && change.before.total_flow(at.link) != change.after.total_flow(at.link)
 }
 
-/// Whether a link has equal weights in two networks. Nothing is compared where no link's numbers differ.
-pub(crate) fn same_weights(before: &Net, after: &Net, link: usize, links_stay: bool) -> bool
-    requires link { link < length before.now.links }
-    requires link_after { link < length after.now.links }
-    requires stay { IsTrue links_stay → before.now.links ≡ after.now.links }
-    ensures { IsTrue result ↔ (link_of before.now link).weights ≡ (link_of after.now link).weights }
+/// Whether a link has equal weights in two networks. Nothing is compared where the times of a node alone differ.
+pub(crate) fn same_weights(at: &ChangedLink<'_, '_>) -> bool
+    ensures { IsTrue result ↔ (link_of at.now.change.now.before.now at.now.link).weights
+        ≡ (link_of at.now.change.now.after.now at.now.link).weights }
 {
-    let old = link_at(before, link);
-    let new = link_at(after, link);
-    links_stay || old.weights == new.weights
+    let old = link_at(at.change.before, at.link);
+    let new = link_at(at.change.after, at.link);
+    at.change.node.is_some() || old.weights == new.weights
 }
 
 /// The place of a link's number; the first where there is no such link.

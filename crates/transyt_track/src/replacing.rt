@@ -61,7 +61,7 @@ pub(crate) fn place(pair: &Pair<'_, '_>, differs: Differs, front: &mut Front)
     } }
     ensures rows { AreRows front.old.kept.now }
     ensures scratch { front.new.scratch ≡ front.old.scratch }
-    ensures awaited { front.new.awaited ≡ front.old.awaited }
+    ensures out_changed { front.new.out_changed ≡ front.old.out_changed }
     ensures own_changed { front.new.own_changed ≡ front.old.own_changed }
 {
     let net = pair.change.after;
@@ -84,13 +84,12 @@ pub(crate) fn leave(pair: &Pair<'_, '_>, kept: &mut Rows)
       now = left_at pair.now.change.now.after.now pair.now.sweep pair.now.link kept.old.now;
     } }
 {
-    let change = pair.change;
-    let after = change.after;
+    let after = pair.change.after;
     let link = pair.link;
     if pair.sweep != after.frame().sweeps {
         return;
     }
-    if !same_weights(change.before, after, link, change.node.is_some()) {
+    if !same_weights(&pair.change.link(link)) {
         let figures = kept.figures(link);
         kept.put_figures(link, reweigh(after, link, figures));
     }

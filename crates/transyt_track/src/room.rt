@@ -2,33 +2,19 @@
 
 ghost use Rattle.std.specs.Prelude.{◌≡◌, length, IfOk};
 ghost use Rattle.transyt_track.specs.Own.{all_places};
-ghost use Rattle.transyt_track.specs.Readers.{AreReaders};
 
 use crate::own::{Places, all_places};
-use crate::readers::{Readers, all_readers};
 use std::alloc::{AllocError, Global};
 use transyt_net::Net;
 use transyt_sweep::Scratch;
 
-/// A tracker's room: for each link the places that it reads, the links that read it and two flags; room for the work on
-/// one link.
+/// A tracker's room: for each link the places that it reads and two flags; room for the work on one link.
 #[derive(Drop)]
 pub(crate) struct Room {
     pub(crate) places: Vec<Places>,
-    pub(crate) readers: Vec<Readers>,
     pub(crate) own_changed: Vec<bool>,
-    pub(crate) awaited: Vec<bool>,
+    pub(crate) out_changed: Vec<bool>,
     pub(crate) scratch: Scratch,
-}
-
-/// For each link the places that it reads, and the links that read it.
-fn read(alloc: Global, net: &Net) -> Result<(Vec<Places>, Vec<Readers>), AllocError>
-    ensures places { IfOk result (λ read. read.0.items ≡ all_places net.now) }
-    ensures readers { IfOk result (λ read. AreReaders net.now read.1.items) }
-{
-    let places = all_places(alloc, net)?;
-    let readers = all_readers(alloc, net, &places)?;
-    Ok((places, readers))
 }
 
 /// Two flags for each link.
@@ -46,21 +32,20 @@ impl Room {
     /// Room for a tracker of a network.
     pub(crate) fn open(alloc: Global, net: &Net) -> Result<Room, AllocError>
         ensures places { IfOk result (λ room. room.places.items ≡ all_places net.now) }
-        ensures readers { IfOk result (λ room. AreReaders net.now room.readers.items) }
         ensures own_count { IfOk result
             (λ room. length room.own_changed.items ≡ length net.now.links) }
-        ensures count { IfOk result (λ room. length room.awaited.items ≡ length net.now.links) }
+        ensures count { IfOk result
+            (λ room. length room.out_changed.items ≡ length net.now.links) }
         ensures steps { IfOk result
             (λ room. length room.scratch.arrivals ≡ net.now.frame.step_count) }
     {
-        let read = read(alloc, net)?;
+        let places = all_places(alloc, net)?;
         let flags = flags(alloc, net)?;
         let scratch = Scratch::open(alloc, net)?;
         Ok(Room {
-            places: read.0,
-            readers: read.1,
+            places,
             own_changed: flags.0,
-            awaited: flags.1,
+            out_changed: flags.1,
             scratch,
         })
     }

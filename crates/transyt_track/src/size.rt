@@ -1,7 +1,6 @@
 //! How many bytes a tracker takes.
 
 use crate::own::Places;
-use crate::readers::Readers;
 use std::mem::size_of;
 use transyt_delay::Figures;
 use transyt_kept::Rows;
@@ -26,20 +25,13 @@ const VERSION: usize = PAIRS * PROFILE + LINKS * (3 * PROFILE + size_of::<Figure
 const ROWS: usize = 2 * VERSION + 2 * (PAIRS + 4 * LINKS) * size_of::<bool>();
 // the places of each link's node, feeders and rule
 const PLACES: usize = LINKS * (size_of::<Places>() + FEEDS * size_of::<usize>());
-// the readers of each link: each link reads nine at most, and room doubles as it fills and is four at least
-const READERS: usize = LINKS * (size_of::<Readers>() + (2 * (FEEDS + 1) + 4) * size_of::<usize>());
 // two flags for each link, the room for one link's work, and the numbers worked out last for each feed
 const ROOM: usize = 2 * LINKS * size_of::<bool>() + 13 * PROFILE + LINKS * FACTOR_BYTES;
 
 /// The most bytes that a tracker takes beside its two networks, at the limits of a network: 1,000 links of eight feeds,
-/// 120 steps and eight sweeps. It is below 24.4 million.
-pub const MOST_BYTES: usize = size_of::<Rows>()
-    + size_of::<Scratch>()
-    + ROWS
-    + PLACES
-    + READERS
-    + ROOM;
+/// 120 steps and eight sweeps. It is below 24.2 million.
+pub const MOST_BYTES: usize = size_of::<Rows>() + size_of::<Scratch>() + ROWS + PLACES + ROOM;
 
-const _: () = prove!(MOST_BYTES <= 24_400_000);
+const _: () = prove!(MOST_BYTES <= 24_200_000);
 
-const _: () = prove!(MOST_BYTES > 24_300_000);
+const _: () = prove!(MOST_BYTES > 24_100_000);

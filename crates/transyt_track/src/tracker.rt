@@ -15,7 +15,6 @@ use crate::change::{Change, Front};
 use crate::found::Found;
 use crate::front::follow_rows;
 use crate::own::{Places, edited_node};
-use crate::readers::Readers;
 use crate::returning::{copy_rows, go_back};
 use crate::room::Room;
 use std::alloc::{AllocError, Global};
@@ -37,7 +36,6 @@ pub struct Tracker {
     // the marked network, while a mark is open
     marked: Net,
     places: Vec<Places>,
-    readers: Vec<Readers>,
     front: Front,
 }
 
@@ -48,7 +46,6 @@ impl Drop for Tracker {
             net: _,
             marked: _,
             places: _,
-            readers: _,
             front: _,
         } = self;
     }
@@ -63,7 +60,7 @@ impl Model for Tracker {
 
     // the rows are the evaluation of the network, and those of the mark that of the marked one
     ghost invariant = { λ t.
-        IsTracking t.net t.marked t.front t.places.items t.readers.items };
+        IsTracking t.net t.marked t.front t.places.items };
 }
 
 impl Tracker {
@@ -111,10 +108,10 @@ impl Tracker {
         let front = Front {
             kept,
             own_changed: room.own_changed,
-            awaited: room.awaited,
+            out_changed: room.out_changed,
             scratch: room.scratch,
         };
-        Ok(Tracker::of_parts(nets.0, nets.1, front, room.places, room.readers))
+        Ok(Tracker::of_parts(nets.0, nets.1, front, room.places))
     }
 
     /// Two copies of a network.
@@ -131,21 +128,14 @@ impl Tracker {
     }
 
     /// The tracker of these parts.
-    fn of_parts(
-        net: Net,
-        marked: Net,
-        front: Front,
-        places: Vec<Places>,
-        readers: Vec<Readers>,
-    ) -> Tracker
-        requires { IsTracking net marked front places.items readers.items }
+    fn of_parts(net: Net, marked: Net, front: Front, places: Vec<Places>) -> Tracker
+        requires { IsTracking net marked front places.items }
         ensures { result ≡ tracker_of net front.kept.marked marked }
     {
         Tracker {
             net,
             marked,
             places,
-            readers,
             front,
         }
     }
@@ -229,7 +219,6 @@ impl Tracker {
             after,
             node: None,
             places: &self.places,
-            readers: &self.readers,
         };
         let due = follow_rows(&change, &mut self.front, steps);
         self.net.take_numbers(after);
@@ -255,7 +244,6 @@ impl Tracker {
             after,
             node: edited_node(&self.net, &e),
             places: &self.places,
-            readers: &self.readers,
         };
         let due = follow_rows(&change, &mut self.front, steps);
         make(&mut self.net, e);
@@ -292,7 +280,6 @@ impl Tracker {
             after,
             node: edited_node(&self.net, &e),
             places: &self.places,
-            readers: &self.readers,
         };
         let due = follow_rows(&change, &mut self.front, steps);
         let index = self.front.kept.index();

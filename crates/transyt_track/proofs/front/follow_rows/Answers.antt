@@ -61,8 +61,8 @@ returns-clause-rows g c =
     let b = c.args.change.now.after.now in
     let all : c.loop-sweep.sweep ≡ b.frame.sweeps + 1 = omega
     (arith, ap (λ (f : Frame). f.sweeps) c.frame-sweep-end.ensures.value) in
-    ended c.args.change.now.before.now b c.loop-sweep.front.kept.now c.loop-sweep.front.awaited.items
-    (subst (λ s. AreAt c.args.change.now.before.now b s 0 c.loop-sweep.front.kept.now c.loop-sweep.front.awaited.items) all
+    ended c.args.change.now.before.now b c.loop-sweep.front.kept.now c.loop-sweep.front.out_changed.items
+    (subst (λ s. AreAt c.args.change.now.before.now b s 0 c.loop-sweep.front.kept.now c.loop-sweep.front.out_changed.items) all
     c.loop-sweep.invariant.front.at)
 
 pub returns-clause-count : goal.returns-clause-count

@@ -55,7 +55,7 @@ returns-clause-front g c =
     let at = c.loop-link.invariant.front in
     record {
       at = turned_sweep c.args.change.now.before.now c.args.change.now.after.now c.args.sweep c.loop-link.link
-          c.loop-link.front.kept.now c.loop-link.front.awaited.items at.at c.args.change.now.same_shape
+          c.loop-link.front.kept.now c.loop-link.front.out_changed.items at.at
           (omega (arith, ap length c.links-link-end.ensures.value));
       own = at.own;
       steps = at.steps;

@@ -5,5 +5,6 @@ use Rattle.transyt_track.proofs.own.other_total.Goals as goal
 
 pub returns-else-not-same : goal.returns-else-not-same
 returns-else-not-same c =
+    let at = c.args.at.now in
     ap not c.if-not-same.false
-    ∙ sym (data_total c.args.before.now c.args.after.now c.args.link (c.requires.same.0 c.if-not-same.false))
+    ∙ sym (data_total at.change.now.before.now at.change.now.after.now at.link (c.requires.0 c.if-not-same.false))

@@ -7,21 +7,22 @@ use Rattle.transyt_track.proofs.own.same_data.Goals as goal
 
 pub returns-then-not-node_changed-places : goal.returns-then-not-node_changed-places
 returns-then-not-node_changed-places c =
-    let a = c.args.before.now in
-    let b = c.args.after.now in
-    let r = c.requires in
+    let at = c.args.at.now in
+    let a = at.change.now.before.now in
+    let b = at.change.now.after.now in
     let old = c.link_at-old in
     let new = c.link_at-new in
-    data_told a b c.args.link c.same_numbers.result old.result.now new.result.now old.ensures.value new.ensures.value
+    data_told a b at.link c.same_numbers.result old.result.now new.result.now old.ensures.value new.ensures.value
     c.same_numbers.ensures
-    ((flag_here a b c.args.link old.ensures.valid new.ensures.valid r.link r.link_after (c.places.view_is ∙ r.places)
-    (c.places.view_is ∙ r.places_after) r.nodes).0 c.if-not-node_changed-places.true)
+    ((flag_here a b at.link old.ensures.valid new.ensures.valid at.inside_before at.inside
+    (c.places.view_is ∙ at.places_before) (c.places.view_is ∙ at.places_after) c.requires).0
+    c.if-not-node_changed-places.true)
 
 pub returns-else-not-node_changed-places : goal.returns-else-not-node_changed-places
 returns-else-not-node_changed-places c =
-    let r = c.requires in (
+    let at = c.args.at.now in (
       λ told. absurd (true≢false (sym told ∙ ap not c.if-not-node_changed-places.false)),
-      λ have. ap not ((flag_here c.args.before.now c.args.after.now c.args.link c.link_at-old.ensures.valid
-          c.link_at-new.ensures.valid r.link r.link_after (c.places.view_is ∙ r.places)
-          (c.places.view_is ∙ r.places_after) r.nodes).1 have.times),
+      λ have. ap not ((flag_here at.change.now.before.now at.change.now.after.now at.link c.link_at-old.ensures.valid
+          c.link_at-new.ensures.valid at.inside_before at.inside (c.places.view_is ∙ at.places_before)
+          (c.places.view_is ∙ at.places_after) c.requires).1 have.times),
     )

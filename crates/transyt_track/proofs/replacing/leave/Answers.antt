@@ -6,11 +6,7 @@ use Rattle.transyt_kept.specs.Rows.{RowsValue, shown_at, with_figures}
 use Rattle.transyt_sweep.specs.Reading.{with_weights, reweighed}
 use Rattle.transyt_track.proofs.FrontLaws.{same_test}
 use Rattle.transyt_track.proofs.LeftLaws.{weights_stay}
-use Rattle.transyt_track.proofs.ShapeLaws.{shape_count}
 use Rattle.transyt_track.proofs.replacing.leave.Goals as goal
-
-pub same_weights-requires-clause-link : goal.same_weights-requires-clause-link
-same_weights-requires-clause-link c = omega (arith, c.args.pair.now.inside, shape_count _ _ c.args.pair.now.change.now.same_shape)
 
 pub returns-then-not-same_weights : goal.returns-then-not-same_weights
 returns-then-not-same_weights c =
@@ -36,5 +32,5 @@ returns-else-not-same_weights c =
     let told : IsTrue c.same_weights.result = search rules in
     ap (λ (r : RowsValue). record c.args.kept.now { now = r })
     (sym (ap (λ w. if w then with_weights rows b l else rows) (same_test c.args.pair.now.sweep b.frame.sweeps (sym last))
-    ∙ weights_stay c.args.pair.now.change.now.before.now b l rows c.args.pair.now.change.now.same_shape (c.same_weights.ensures.0 told)
+    ∙ weights_stay c.args.pair.now.change.now.before.now b l rows c.args.pair.now.change.now.same_shape (rw (← c.link.ensures.change, ← c.link.ensures.link) (c.same_weights.ensures.0 told))
     (ap (λ (v : CellValue). v.figures) (c.requires.shown last))))

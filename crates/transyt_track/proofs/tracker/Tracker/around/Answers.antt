@@ -10,9 +10,9 @@ of_parts-requires c =
     let front : Front = record {
       kept = c.args.kept;
       own_changed = room.own_changed;
-      awaited = room.awaited;
+      out_changed = room.out_changed;
       scratch = room.scratch;
     } in
     rw c.in-Ok-copies.ensures.first (opened_tracks c.args.net.now c.in-Ok-copies.nets.1 front room.places.items
-    room.readers.items c.in-Ok-copies.ensures.second c.requires.rows c.requires.closed say.places say.readers
+    c.in-Ok-copies.ensures.second c.requires.rows c.requires.closed say.places
     record { own_count = say.own_count; count = say.count; steps = say.steps })

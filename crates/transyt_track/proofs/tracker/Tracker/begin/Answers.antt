@@ -6,4 +6,4 @@ pub invariant_of-self : goal.invariant_of-self
 invariant_of-self c =
     let i = c.self.inside in
     rw (c.take_numbers.ensures, c.begin.ensures)
-    (begun_tracks i.net i.marked i.front i.places.items i.readers.items c.self.invariant)
+    (begun_tracks i.net i.marked i.front i.places.items c.self.invariant)

@@ -28,9 +28,9 @@ invariant_of-self g c =
     let was = c.self.invariant in
     let same = follow_shape c.self.view_is was c.args.after.now c.requires.shape in
     let followed = follow_tracks c.self.view_is
-    (begun_tracks i.net i.marked i.front i.places.items i.readers.items was) c.args.after.now c.requires.shape say.rows
+    (begun_tracks i.net i.marked i.front i.places.items was) c.args.after.now c.requires.shape say.rows
     (say.marked ∙ ap (λ (k : KeptValue). k.marked) c.begin.ensures) say.room in
-    closed_tracks c.args.after.now i.net new.front i.places.items i.readers.items followed c.settle_on.new.net i.marked
+    closed_tracks c.args.after.now i.net new.front i.places.items followed c.settle_on.new.net i.marked
     end.shape (sym end.shape ∙ sym same ∙ was.shape) c.settle_on.new.kept end.rows end.closed
 
 pub returns-clause-index : goal.returns-clause-index

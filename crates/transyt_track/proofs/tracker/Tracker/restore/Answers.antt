@@ -14,5 +14,5 @@ invariant_of-self c =
     let i = c.self.inside in
     let was = c.self.invariant in
     rw (c.swap.ensures.x_after, c.swap.ensures.y_after)
-    (closed_tracks i.net i.marked i.front i.places.items i.readers.items was i.marked i.net was.shape (sym was.shape)
+    (closed_tracks i.net i.marked i.front i.places.items was i.marked i.net was.shape (sym was.shape)
     c.go_back.new.kept c.go_back.ensures.rows c.go_back.ensures.closed)

@@ -2,7 +2,7 @@
 use Rattle.std.proofs.Common.{◌≡◌, take}
 use Rattle.std.specs.List.{list_any}
 use Rattle.transyt_track.specs.Front.{flag}
-use Rattle.transyt_track.proofs.starting.any_changed.Given as goal
+use Rattle.transyt_track.proofs.reading.any_changed.Given as goal
 
 abbrev pub invariant-loop-place : goal.invariant-loop-place
 invariant-loop-place l = l.any ≡ list_any (flag l.changed) (take l.place-index l.places)

@@ -2,7 +2,7 @@
 use Rattle.std.proofs.Common.{◌||◌, get_or, ap, sym, ◌∙◌, arith}
 use Rattle.std.proofs.lemmas.List.Folds.{list_any_more}
 use Rattle.transyt_track.specs.Front.{flag}
-use Rattle.transyt_track.proofs.starting.any_changed.Goals as goal
+use Rattle.transyt_track.proofs.reading.any_changed.Goals as goal
 
 pub loop-place-preserved : goal.loop-place-preserved
 loop-place-preserved c =

@@ -1,8 +1,0 @@
--- The places, one after another.
-use Rattle.std.proofs.Common.{◌≡◌, take}
-use Rattle.std.specs.List.{list_any}
-use Rattle.transyt_track.specs.Front.{flag_from}
-use Rattle.transyt_track.proofs.starting.any_from.Given as goal
-
-abbrev pub invariant-loop-place : goal.invariant-loop-place
-invariant-loop-place l = l.any ≡ list_any (flag_from l.changed l.link) (take l.place-index l.places)

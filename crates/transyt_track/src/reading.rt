@@ -1,0 +1,46 @@
+//! Whether what a link reads differs: its feeders and the link to which it gives way, by their flags.
+
+ghost use Rattle.std.specs.Prelude.{◌≡◌, ◌<◌, false, length, All, IfSome};
+ghost use Rattle.std.specs.List.{list_any};
+ghost use Rattle.std.specs.Option.{option_map_or};
+ghost use Rattle.transyt_track.specs.Due.{is_due};
+ghost use Rattle.transyt_track.specs.Change.{IsFront};
+ghost use Rattle.transyt_track.specs.Front.{flag};
+
+use crate::change::{Front, Pair};
+
+/// Whether the flag of one of these is up. All are read, since a jump out at the first that is up is seldom foreseen.
+pub(crate) fn any_changed(changed: &[bool], places: &[usize]) -> bool
+    requires { All (λ p. p < length changed.now) places.now }
+    ensures { result ≡ list_any (flag changed.now) places.now }
+{
+    let mut any = false;
+    for place in places {
+        any |= changed[*place];
+    }
+    any
+}
+
+/// Whether there is this one, and its flag is up.
+fn is_changed(changed: &[bool], place: Option<usize>) -> bool
+    requires { IfSome place (λ p. p < length changed.now) }
+    ensures { result ≡ option_map_or (flag changed.now) place false }
+{
+    match place {
+        None => false,
+        Some(place) => changed[place],
+    }
+}
+
+/// Whether the pair at the front is due: its link's own data differ, or departures that it reads.
+pub(crate) fn is_due(pair: &Pair<'_, '_>, front: &Front) -> bool
+    requires { IsFront pair.now.change.now pair.now.sweep pair.now.link front.now }
+    ensures { result ≡ is_due pair.now.change.now.before.now pair.now.change.now.after.now
+        pair.now.sweep
+        pair.now.link }
+{
+    let places = pair.change.link(pair.link).places;
+    let fed = any_changed(&front.out_changed, &places.feeders);
+    let barred = is_changed(&front.out_changed, places.rule);
+    front.own_changed[pair.link] | fed | barred
+}
