@@ -223,14 +223,16 @@ bare_valid net cycle valid can =
 
 -- no least green is above 120
 pub least_small : (ss : List Stage) → AreShort ss → All (λ e. e ≤ 120) (map (λ (s : Stage). s.least) ss)
-least_small ss each =
+least_small ss short =
     All-map (λ e. e ≤ 120) (λ (s : Stage). s.least) ss
-    (All-weaker (λ s. (s.intergreen ≤ 120) × (s.least ≤ 120)) (λ s. s.least ≤ 120) (λ s is. is.1) ss each)
+    (All-weaker (λ s. (s.intergreen ≤ 120) × (s.least ≤ 120)) (λ s. s.least ≤ 120) (λ s is. is.1) ss short.each)
 
 -- the stages of a cycle of at most 120 steps are short
-pub are_short : (steps : ℕ) (ss : List Stage) → steps ≤ 120 → All (IsStage steps) ss → AreShort ss
-are_short steps ss few each k d inside =
-    let is = each k d inside in (omega (arith, is.intergreen), omega (arith, is.least.1))
+pub are_short : (steps : ℕ) (ss : List Stage) → steps ≤ 120 → length ss ≤ 8 → All (IsStage steps) ss → AreShort ss
+are_short steps ss most few each = record {
+  few = few;
+  each = λ k d inside. (let is = each k d inside in (omega (arith, is.intergreen), omega (arith, is.least.1)));
+}
 
 -- no intergreen is above 120
 pub scaled_gaps : (before after : ℕ) (ss : List Stage) → before ≤ 120 → All (IsStage before) ss

@@ -5,9 +5,10 @@ use Rattle.transyt_parts.specs.Valid.{IsNode}
 use Rattle.transyt_net.specs.Parts.{Network, NodeValue}
 use Rattle.transyt_variants.specs.Cycles.{is_whole, may_have, steps_of, first_barred, least_length}
 
--- no intergreen and no least green of these stages is above 120
-abbrev pub AreShort : List Stage → Type 0
-AreShort stages = All (λ s. (s.intergreen ≤ 120) × (s.least ≤ 120)) stages
+-- at most eight stages, of which no intergreen and no least green is above 120
+pub record AreShort (stages : List Stage) : Type 0 where
+  pub few : length stages ≤ 8
+  pub each : All (λ s. (s.intergreen ≤ 120) × (s.least ≤ 120)) stages
 
 -- a node of a cycle of so many steps that has a bare plan in one of others
 pub record HasBarePlan (before after : ℕ) (n : NodeValue) : Type 0 where

@@ -4,12 +4,13 @@ ghost use Rattle.std.specs.List.{list_all};
 ghost use Rattle.std.specs.Option.{option_map};
 ghost use Rattle.transyt_parts.specs.Valid.{IsNode};
 ghost use Rattle.transyt_equisat.specs.Balance.{timed};
-ghost use Rattle.transyt_variants.specs.Cycles.{is_whole, has_short_lags, has_short_sizes, may_have, first_barred};
+ghost use Rattle.transyt_variants.specs.Cycles.{has_short_lags, has_short_sizes, may_have, first_barred};
 ghost use Rattle.transyt_variants.specs.Cycles.{bare_net, balanced_node, balanced, at_cycle};
 ghost use Rattle.transyt_variants.specs.Kept.{KeepsSecondsAt};
 ghost use Rattle.transyt_variants.specs.Needs.{CanHave};
 
-use crate::bare::{bare_net, least_length, steps_of};
+use crate::bare::{bare_net, least_length};
+use crate::cycle_time::CycleTime;
 use std::alloc::{AllocError, Global};
 use transyt_equisat::{Share, balance};
 use transyt_net::{ClimbPlan, Link, Net, Node, Stage};
@@ -83,14 +84,6 @@ fn first_barred(steps: u32, nodes: &[Node]) -> Option<u32>
     None
 }
 
-/// Whether a cycle time is a whole number of steps.
-fn is_whole(net: &Net, cycle: u32) -> bool
-    requires { cycle ≤ 240 }
-    ensures { result ≡ is_whole net.now cycle }
-{
-    net.frame().step_count * cycle % net.frame().cycle == 0
-}
-
 /// These stages at the changes of these shares.
 fn timed(alloc: Global, stages: &[Stage], shares: &[Share]) -> Result<Vec<Stage>, AllocError>
     requires { length shares.now ≡ length stages.now }
@@ -158,31 +151,29 @@ fn balanced(alloc: Global, net: &Net) -> Result<Net, AllocError>
 }
 
 /// The network at a cycle time that can be had.
-fn plan_at(alloc: Global, net: &Net, cycle: u32) -> Result<Net, AllocError>
-    requires { CanHave net.now cycle }
-    ensures { IfOk result (λ made. made ≡ balanced (bare_net net.now cycle)) }
+fn plan_at(alloc: Global, net: &Net, time: CycleTime) -> Result<Net, AllocError>
+    requires { CanHave net.now time.seconds }
+    ensures { IfOk result (λ made. made ≡ balanced (bare_net net.now time.seconds)) }
 {
-    let bare = bare_net(alloc, net, cycle)?;
+    let bare = bare_net(alloc, net, time)?;
     let made = balanced(alloc, &bare);
     drop(bare);
     made
 }
 
 /// A network at another cycle time, or the reason why there is none.
-fn cycle_made(alloc: Global, net: &Net, cycle: u32) -> Result<AtCycle, AllocError>
-    requires low { 30 ≤ cycle }
-    requires high { cycle ≤ 240 }
-    ensures { IfOk result (λ at. at ≡ at_cycle net.now cycle) }
+fn cycle_made(alloc: Global, net: &Net, time: CycleTime) -> Result<AtCycle, AllocError>
+    ensures { IfOk result (λ at. at ≡ at_cycle net.now time.seconds) }
 {
-    if !is_whole(net, cycle) {
+    if !time.is_whole(net) {
         return Ok(AtCycle::NoPlan);
     }
-    if !may_have(steps_of(net, cycle), net) {
+    if !may_have(time.steps_of(net), net) {
         return Ok(AtCycle::NoPlan);
     }
-    match first_barred(steps_of(net, cycle), net.nodes()) {
+    match first_barred(time.steps_of(net), net.nodes()) {
         Some(node) => Ok(AtCycle::Barred { node }),
-        None => Ok(AtCycle::Plan(plan_at(alloc, net, cycle)?)),
+        None => Ok(AtCycle::Plan(plan_at(alloc, net, time)?)),
     }
 }
 
@@ -201,5 +192,5 @@ pub fn cycle_net(alloc: Global, net: &Net, cycle: u32) -> Result<AtCycle, AllocE
 {
     // That a network is valid is told by its accessors.
     let _ = net.frame();
-    cycle_made(alloc, net, cycle)
+    cycle_made(alloc, net, CycleTime { seconds: cycle })
 }

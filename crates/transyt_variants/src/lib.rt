@@ -7,9 +7,13 @@
 #![tactic(auto)]
 
 mod bare;
+mod cycle_time;
 mod cycles;
+mod fitting;
 mod laws;
 mod lengths;
+mod node_stages;
+mod start;
 mod starts;
 
 pub use cycles::{AtCycle, cycle_net};

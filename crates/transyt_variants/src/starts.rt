@@ -6,6 +6,7 @@ ghost use Rattle.transyt_make.specs.Draws.{further};
 ghost use Rattle.transyt_variants.specs.Starts.{drawn_nodes, start_at};
 ghost use Rattle.transyt_variants.specs.Kept.{KeepsAllButOffsets};
 
+use crate::start::Start;
 use std::alloc::{AllocError, Global};
 use transyt_make::Draws;
 use transyt_net::{Net, Node};
@@ -68,28 +69,24 @@ fn drawn(alloc: Global, net: &Net, draws: &mut Draws) -> Result<Net, AllocError>
 
 /// The start at a place after the first.
 #[tactic(auto, using(crate::proofs::StartLaws::start_later))]
-fn start_later(alloc: Global, net: &Net, seed: u32, place: usize) -> Result<Net, AllocError>
-    requires seed { seed ≤ 999999999 }
-    requires some { 0 < place }
-    requires place { place ≤ 999 }
-    ensures { IfOk result (λ made. made ≡ start_at net.now seed place) }
+fn start_later(alloc: Global, net: &Net, start: Start) -> Result<Net, AllocError>
+    requires { 0 < start.place }
+    ensures { IfOk result (λ made. made ≡ start_at net.now start.seed start.place) }
 {
-    let mut draws = Draws::new(seed);
-    skip(&mut draws, (place - 1) * net.nodes().len());
+    let mut draws = Draws::new(start.seed);
+    skip(&mut draws, (start.place - 1) * net.nodes().len());
     drawn(alloc, net, &mut draws)
 }
 
 /// The start at a place.
 #[tactic(auto, unfolding(crate::specs::Starts::start_at))]
-fn start_made(alloc: Global, net: &Net, seed: u32, place: usize) -> Result<Net, AllocError>
-    requires seed { seed ≤ 999999999 }
-    requires place { place ≤ 999 }
-    ensures { IfOk result (λ made. made ≡ start_at net.now seed place) }
+fn start_made(alloc: Global, net: &Net, start: Start) -> Result<Net, AllocError>
+    ensures { IfOk result (λ made. made ≡ start_at net.now start.seed start.place) }
 {
-    if place == 0 {
+    if start.place == 0 {
         return net.copy(alloc);
     }
-    start_later(alloc, net, seed, place)
+    start_later(alloc, net, start)
 }
 
 /// The start of a network at a place of a list of starts: the first is an equal network, each other has offsets that
@@ -105,5 +102,5 @@ pub fn start_net(alloc: Global, net: &Net, seed: u32, place: usize) -> Result<Ne
 {
     // That a network is valid is told by its accessors.
     let _ = net.frame();
-    start_made(alloc, net, seed, place)
+    start_made(alloc, net, Start { seed, place })
 }

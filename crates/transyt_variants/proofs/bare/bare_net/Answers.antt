@@ -6,8 +6,8 @@ use Rattle.transyt_variants.proofs.bare.bare_net.Goals as goal
 
 pub add_bare-requires : goal.add_bare-requires
 add_bare-requires c = record {
-  from = bare_from c.args.net.now c.args.cycle c.steps_of.result c.frame.result c.nodes.result.now c.frame.ensures.value
-      c.steps_of.ensures c.nodes.ensures.value c.nodes.ensures.valid c.requires.cycle;
+  from = bare_from c.args.net.now c.args.time.seconds c.steps_of.result c.frame.result c.nodes.result.now c.frame.ensures.value
+      c.steps_of.ensures c.nodes.ensures.value c.nodes.ensures.valid c.requires;
   none = c.new-nodes.ensures.items;
 }
 
@@ -19,6 +19,6 @@ with_signals-made-requires-clause-numbers c =
 
 pub with_signals-made-requires-clause-valid : goal.with_signals-made-requires-clause-valid
 with_signals-made-requires-clause-valid c =
-    bare_made c.args.net.now c.args.cycle c.steps_of.result c.frame.result c.frame-2.result c.nodes.result.now
+    bare_made c.args.net.now c.args.time.seconds c.steps_of.result c.frame.result c.frame-2.result c.nodes.result.now
     c.deref.result.now c.frame.ensures.value c.frame-2.ensures.value c.steps_of.ensures c.nodes.ensures.value
-    (c.deref.ensures.value ∙ c.in_default.ensures) c.nodes.ensures.valid c.requires.cycle
+    (c.deref.ensures.value ∙ c.in_default.ensures) c.nodes.ensures.valid c.requires

@@ -8,7 +8,7 @@ use Rattle.transyt_variants.proofs.bare.laid.Given as goal
 abbrev pub invariant-loop-place : goal.invariant-loop-place
 invariant-loop-place l = record {
   so_far : l.made.items
-      ≡ map (laid_stage l.steps l.stages l.greens) (range_with_len 0 l.place);
-  change : l.change ≡ change_at l.steps l.stages l.greens l.place;
-  small : l.change < l.steps;
+      ≡ map (laid_stage l.fitting.steps l.fitting.stages.now l.fitting.greens.now) (range_with_len 0 l.place);
+  change : l.change ≡ change_at l.fitting.steps l.fitting.stages.now l.fitting.greens.now l.place;
+  small : l.change < l.fitting.steps;
 }

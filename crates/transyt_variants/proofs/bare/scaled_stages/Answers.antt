@@ -8,7 +8,7 @@ use Rattle.transyt_variants.proofs.bare.scaled_stages.Goals as goal
 
 pub loop-stage-preserved : goal.loop-stage-preserved
 loop-stage-preserved c =
-    let s : Stage = stage_of c.args.stages.now c.loop-stage.stage-index in
-    take_more (scaled_stage c.args.lengths.before c.args.lengths.after) c.args.stages.now c.loop-stage.made.items
+    let s : Stage = stage_of c.args.here.now.stages.now c.loop-stage.stage-index in
+    take_more (scaled_stage c.args.here.now.lengths.before c.args.here.now.lengths.after) c.args.here.now.stages.now c.loop-stage.made.items
     c.push.new.self.items c.loop-stage.stage-index no_stage (record s { change = c.scaled.result }) c.loop-stage-test.true
     c.loop-stage.invariant c.in_ok-push.ensures.items (ap (λ n. record s { change = n }) c.scaled.ensures.value)

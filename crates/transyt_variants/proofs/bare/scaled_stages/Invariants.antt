@@ -4,4 +4,4 @@ use Rattle.transyt_variants.specs.Cycles.{scaled_stage}
 use Rattle.transyt_variants.proofs.bare.scaled_stages.Given as goal
 
 abbrev pub invariant-loop-stage : goal.invariant-loop-stage
-invariant-loop-stage l = l.made.items ≡ map (scaled_stage l.lengths.before l.lengths.after) (take l.stage-index l.stages)
+invariant-loop-stage l = l.made.items ≡ map (scaled_stage l.here.lengths.before l.here.lengths.after) (take l.stage-index l.here.stages.now)

@@ -10,25 +10,25 @@ use Rattle.transyt_variants.proofs.cycles.cycle_made.Goals as goal
 pub returns-then-not-is_whole : goal.returns-then-not-is_whole
 returns-then-not-is_whole c =
     let net = c.args.net.now in
-    let whole : is_whole net c.args.cycle ≡ false = sym c.if-not-is_whole.ensures in
-    not_had net c.args.cycle (λ j. not (whole j) || not (may_have (steps_of net c.args.cycle) net))
+    let whole : is_whole net c.args.time.seconds ≡ false = sym c.if-not-is_whole.ensures in
+    not_had net c.args.time.seconds (λ j. not (whole j) || not (may_have (steps_of net c.args.time.seconds) net))
 
 -- not one that there may be
 pub returns-then-not-may_have : goal.returns-then-not-may_have
 returns-then-not-may_have c =
     let net = c.args.net.now in
-    let whole : is_whole net c.args.cycle ≡ true = sym c.if-not-is_whole.ensures in
-    let may : may_have (steps_of net c.args.cycle) net ≡ false =
+    let whole : is_whole net c.args.time.seconds ≡ true = sym c.if-not-is_whole.ensures in
+    let may : may_have (steps_of net c.args.time.seconds) net ≡ false =
     sym (c.if-not-may_have.ensures ∙ ap (λ n. may_have n net) c.steps_of.ensures) in
-    not_had net c.args.cycle (λ j. not (whole j) || not (may j))
+    not_had net c.args.time.seconds (λ j. not (whole j) || not (may j))
 
 -- what a plan asks for
 pub plan_at-requires : goal.plan_at-requires
 plan_at-requires c =
     let net = c.args.net.now in
     record {
-      low = c.requires.low;
-      high = c.requires.high;
+      low = c.args.time.low;
+      high = c.args.time.high;
       whole = sym c.if-not-is_whole.ensures;
       may = sym (c.if-not-may_have.ensures ∙ ap (λ n. may_have n net) c.steps_of.ensures);
       none = sym (c.in-None.ensures ∙ (λ j. first_barred (c.steps_of-2.ensures j) (c.nodes.ensures.value j)));
@@ -38,20 +38,20 @@ plan_at-requires c =
 pub returns-in-Some : goal.returns-in-Some
 returns-in-Some c =
     let net = c.args.net.now in
-    let whole : is_whole net c.args.cycle ≡ true = sym c.if-not-is_whole.ensures in
-    let may : may_have (steps_of net c.args.cycle) net ≡ true =
+    let whole : is_whole net c.args.time.seconds ≡ true = sym c.if-not-is_whole.ensures in
+    let may : may_have (steps_of net c.args.time.seconds) net ≡ true =
     sym (c.if-not-may_have.ensures ∙ ap (λ n. may_have n net) c.steps_of.ensures) in
-    let first : first_barred (steps_of net c.args.cycle) net.nodes ≡ Some c.in-Some.node =
+    let first : first_barred (steps_of net c.args.time.seconds) net.nodes ≡ Some c.in-Some.node =
     sym (c.in-Some.ensures ∙ (λ j. first_barred (c.steps_of-2.ensures j) (c.nodes.ensures.value j))) in
-    had net c.args.cycle (Some c.in-Some.node) whole may first
+    had net c.args.time.seconds (Some c.in-Some.node) whole may first
 
 -- none: there is a plan
 pub returns-in_ok-plan_at-in-None : goal.returns-in_ok-plan_at-in-None
 returns-in_ok-plan_at-in-None c =
     let net = c.args.net.now in
-    let whole : is_whole net c.args.cycle ≡ true = sym c.if-not-is_whole.ensures in
-    let may : may_have (steps_of net c.args.cycle) net ≡ true =
+    let whole : is_whole net c.args.time.seconds ≡ true = sym c.if-not-is_whole.ensures in
+    let may : may_have (steps_of net c.args.time.seconds) net ≡ true =
     sym (c.if-not-may_have.ensures ∙ ap (λ n. may_have n net) c.steps_of.ensures) in
-    let first : first_barred (steps_of net c.args.cycle) net.nodes ≡ None =
+    let first : first_barred (steps_of net c.args.time.seconds) net.nodes ≡ None =
     sym (c.in-None.ensures ∙ (λ j. first_barred (c.steps_of-2.ensures j) (c.nodes.ensures.value j))) in
-    ap (λ (n : Network). Plan n) c.in_ok-plan_at-in-None.ensures ∙ had net c.args.cycle None whole may first
+    ap (λ (n : Network). Plan n) c.in_ok-plan_at-in-None.ensures ∙ had net c.args.time.seconds None whole may first
