@@ -2,8 +2,8 @@
 use Rattle.std.proofs.Common.{◌≡◌, ℕ, ◌+◌, ◌<◌, ◌≤◌, nat_le, List, get_or, Option, Some, None, ◌∙◌, ap}
 use Rattle.std.proofs.Common.{arith, inl, inr, ◌⊎◌, refl}
 use Rattle.std.proofs.lemmas.Bool.{cases_lt, cond_both, leb-true, leb-false}
-use Rattle.transyt_climbs.specs.declared.row.PlanRow.{PlanRow}
-use Rattle.transyt_climbs.specs.declared.row.PlanRow.TheVariants as row
+use Rattle.transyt_climbs.specs.declared.row.NetworkRow.{NetworkRow}
+use Rattle.transyt_climbs.specs.declared.row.NetworkRow.TheVariants as row
 use Rattle.transyt_climbs.specs.declared.ranking.BestRow.{BestRow}
 use Rattle.transyt_climbs.specs.Climbs.{AreBest, IsBestOf, better, first_lower, end_at, end_index}
 
@@ -20,7 +20,7 @@ not_both none some = let never : ⊥ = cc in never
 same_end : {x : Option ℕ} {to other : ℕ} → x ≡ Some to → x ≡ Some other → to ≡ other
 same_end one two = cc
 
-module _ (rows : List PlanRow) (place : ℕ) where
+module _ (rows : List NetworkRow) (place : ℕ) where
   -- a row that isn't climbed changes nothing
   passed_best : (b : BestRow) → end_at rows place ≡ None → IsBestOf rows place b → IsBestOf rows (place + 1) b
   passed_best b none h = record {
@@ -92,7 +92,7 @@ module _ (rows : List PlanRow) (place : ℕ) where
       (λ yes. kept b to own (leb-true b.to to yes) h)
       (λ no. taken b number to own (leb-false b.to to no) h)
 
-  by_row : (found : Option BestRow) (r : PlanRow) → get_or rows place (row.NoPlan 0) ≡ r → AreBest rows place found
+  by_row : (found : Option BestRow) (r : NetworkRow) → get_or rows place (row.NoPlan 0) ≡ r → AreBest rows place found
       → AreBest rows (place + 1) (better found place r)
   by_row found (row.NoPlan number) is h = passed found (ap end_index is) h
   by_row found (row.Barred number node) is h = passed found (ap end_index is) h

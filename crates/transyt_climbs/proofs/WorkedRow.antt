@@ -14,7 +14,7 @@ use Rattle.transyt_sweep.specs.Climb.{after_search, climb, climb_within}
 use Rattle.transyt_sweep.specs.WorkedLinks.{new_figures}
 use Rattle.transyt_sweep.proofs.WorkedFigures.{figures_by_root, its_terms}
 use Rattle.transyt_net.specs.Edits.{set_offset}
-use Rattle.transyt_climbs.specs.declared.plans.Planned.TheVariants as plan
+use Rattle.transyt_climbs.specs.declared.networks.NetworkAt.TheVariants as plan
 use Rattle.transyt_climbs.specs.Climbs.{end_of, row_by, own_climb, climbed_row}
 use Rattle.transyt_climbs.specs.WorkedClimbs.{climbed_at, junction}
 

@@ -7,11 +7,11 @@ use Rattle.transyt_sweep.specs.Sweeps.{index}
 use Rattle.transyt_sweep.specs.Climb.{Climb, climb, ended}
 use Rattle.transyt_climbs.specs.declared.row.Climbed.{Climbed}
 use Rattle.std.specs.List.{range_with_len}
-use Rattle.transyt_climbs.specs.declared.plans.Planned.{Planned}
-use Rattle.transyt_climbs.specs.declared.row.PlanRow.{PlanRow}
+use Rattle.transyt_climbs.specs.declared.networks.NetworkAt.{NetworkAt}
+use Rattle.transyt_climbs.specs.declared.row.NetworkRow.{NetworkRow}
 use Rattle.transyt_climbs.specs.declared.ranking.BestRow.{BestRow}
-use Rattle.transyt_climbs.specs.declared.plans.Planned.TheVariants as plan
-use Rattle.transyt_climbs.specs.declared.row.PlanRow.TheVariants as row
+use Rattle.transyt_climbs.specs.declared.networks.NetworkAt.TheVariants as plan
+use Rattle.transyt_climbs.specs.declared.row.NetworkRow.TheVariants as row
 
 -- the climb of a network by its own climb plan; without one nothing is listed, so that no move lowers its index
 unfoldable pub own_climb : Network → Climb
@@ -35,27 +35,27 @@ climbed_row number net = row_by number net (own_climb net)
 
 -- the question: how many networks, the number of the row at each place, from 0, and the network there, by the
 -- network that they are made out of
-pub record PlanList : Type 0 where
+pub record NetworkListValue : Type 0 where
   pub count : ℕ
   pub number : ℕ → ℕ
-  pub planned : Network → ℕ → Planned
+  pub network : Network → ℕ → NetworkAt
 
 -- the row of a network, or of the reason why there is none
-abbrev pub row_of : ℕ → Planned → PlanRow
+abbrev pub row_of : ℕ → NetworkAt → NetworkRow
 row_of number (plan.Plan net) = row.Climbed (climbed_row number net)
 row_of number (plan.Barred node) = row.Barred number node
 row_of number plan.NoPlan = row.NoPlan number
 
 -- the row at a place
-abbrev pub row_at : PlanList → Network → ℕ → PlanRow
-row_at asked net place = row_of (asked.number place) (asked.planned net place)
+abbrev pub row_at : NetworkListValue → Network → ℕ → NetworkRow
+row_at asked net place = row_of (asked.number place) (asked.network net place)
 
 -- the table of a network: a row for each place
-abbrev pub table : PlanList → Network → List PlanRow
+abbrev pub table : NetworkListValue → Network → List NetworkRow
 table asked net = map (row_at asked net) (range_with_len 0 asked.count)
 
 -- the network at the end of the climb, where there is a network to climb on
-abbrev pub end_of : Planned → Option Network
+abbrev pub end_of : NetworkAt → Option Network
 end_of (plan.Plan net) = Some (own_climb net).net
 end_of _ = None
 
@@ -65,36 +65,36 @@ first_lower None later = later
 first_lower (Some best) later = if nat_le best.to later.to then best else later
 
 -- the best so far, with the row at a place
-abbrev pub better : Option BestRow → ℕ → PlanRow → Option BestRow
+abbrev pub better : Option BestRow → ℕ → NetworkRow → Option BestRow
 better best place (row.Climbed c) = Some (first_lower best (record { place = place; number = c.number; to = c.to }))
 better best place _ = best
 
 -- the best so far, with the rows from a place on
-abbrev pub best_from : Option BestRow → ℕ → List PlanRow → Option BestRow
+abbrev pub best_from : Option BestRow → ℕ → List NetworkRow → Option BestRow
 best_from best place [] = best
 best_from best place (row ∷ rows) = best_from (better best place row) (place + 1) rows
 
 -- the best row; none where no row is climbed
-abbrev pub best : List PlanRow → Option BestRow
+abbrev pub best : List NetworkRow → Option BestRow
 best rows = best_from None 0 rows
 
 -- the index at the end of a row, where it is climbed
-abbrev pub end_index : PlanRow → Option ℕ
+abbrev pub end_index : NetworkRow → Option ℕ
 end_index (row.Climbed c) = Some c.to
 end_index _ = None
 
 -- the index at the end of the row at a place, where it is climbed
-abbrev pub end_at : List PlanRow → ℕ → Option ℕ
+abbrev pub end_at : List NetworkRow → ℕ → Option ℕ
 end_at rows place = end_index (slice_index_or rows place (row.NoPlan 0))
 
 -- of the rows before a place, the first with the least index at its end
-pub record IsBestOf (rows : List PlanRow) (count : ℕ) (b : BestRow) : Type 0 where
+pub record IsBestOf (rows : List NetworkRow) (count : ℕ) (b : BestRow) : Type 0 where
   pub within : b.place < count
   pub own : end_at rows b.place ≡ Some b.to
   pub least : (k to : ℕ) → k < count → end_at rows k ≡ Some to → b.to ≤ to
   pub first : (k to : ℕ) → k < b.place → end_at rows k ≡ Some to → b.to < to
 
 -- the best of the rows before a place: the first with the least index at its end, or none where none is climbed
-abbrev pub AreBest : List PlanRow → ℕ → Option BestRow → Type 0
+abbrev pub AreBest : List NetworkRow → ℕ → Option BestRow → Type 0
 AreBest rows count (Some b) = IsBestOf rows count b
 AreBest rows count None = (k : ℕ) → k < count → end_at rows k ≡ None

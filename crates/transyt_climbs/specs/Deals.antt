@@ -1,16 +1,8 @@
 -- Places dealt to workers. No public clause cites it: who climbs on which network changes no row.
-use Rattle.std.specs.Prelude.{ℕ, ◌+◌, ◌-◌, ◌*◌, ◌/◌, ◌%◌, ◌≡◌, ◌<◌, ◌≤◌, ◌==◌, nat_lt, if◌then◌else◌, Option, Some, None}
+use Rattle.std.specs.Prelude.{ℕ, ◌+◌, ◌-◌, ◌*◌, ◌/◌, ◌%◌, ◌≡◌, ◌<◌, ◌==◌, nat_lt, if◌then◌else◌, Option, Some, None}
 use Rattle.std.specs.Prelude.{IfSome, List, length, slice_index_or}
 use Rattle.transyt_climbs.specs.declared.deal.Deal.{Deal}
-use Rattle.transyt_climbs.specs.declared.row.PlanRow.{PlanRow}
-
--- one to eight workers, at most 1,000 places, and as many turns as it takes
-pub record IsDeal (deal : Deal) : Type 0 where
-  pub some : 0 < deal.workers
-  pub few : deal.workers ≤ 8
-  pub count : deal.count ≤ 1000
-  pub all : deal.count ≤ deal.turns * deal.workers
-  pub turns : deal.turns * deal.workers < deal.count + deal.workers
+use Rattle.transyt_climbs.specs.declared.row.NetworkRow.{NetworkRow}
 
 -- a number within a turn: the same in even turns, counted from the other end in odd ones
 abbrev pub mirrored : ℕ → ℕ → ℕ → ℕ
@@ -36,11 +28,11 @@ abbrev pub slot_of : Deal → ℕ → ℕ
 slot_of deal place = slot_of_number deal (deal.count - 1 - place)
 
 -- what a slot holds is the row of its place, where it has a place and holds a row
-abbrev pub Holds : (ℕ → PlanRow) → Deal → ℕ → Option PlanRow → Type 0
+abbrev pub Holds : (ℕ → NetworkRow) → Deal → ℕ → Option NetworkRow → Type 0
 Holds row_at deal slot held = IfSome held (λ row. IfSome (place_at deal slot) (λ place. row ≡ row_at place))
 
 -- rows in the order of their places: each is what the slot of its place holds
-pub record AreGathered (deal : Deal) (slots : List (Option PlanRow)) (rows : List PlanRow) : Type 0 where
+pub record AreGathered (deal : Deal) (slots : List (Option NetworkRow)) (rows : List NetworkRow) : Type 0 where
   pub all : length rows ≡ deal.count
-  pub each : (k : ℕ) (d : PlanRow) → k < deal.count
+  pub each : (k : ℕ) (d : NetworkRow) → k < deal.count
       → Some (slice_index_or rows k d) ≡ slice_index_or slots (slot_of deal k) None

@@ -5,13 +5,13 @@ use Rattle.std.specs.List.{range_with_len}
 use Rattle.transyt_net.specs.Parts.{Network, with_cycle}
 use Rattle.transyt_climbs.specs.declared.times.CycleTimes.{CycleTimes}
 use Rattle.transyt_climbs.specs.declared.row.Climbed.{Climbed}
-use Rattle.transyt_climbs.specs.declared.row.PlanRow.{PlanRow}
+use Rattle.transyt_climbs.specs.declared.row.NetworkRow.{NetworkRow}
 use Rattle.transyt_climbs.specs.Times.{AreTimes, cycle_at, cycle_count, times_of, times_within}
-use Rattle.transyt_climbs.specs.Climbs.{climbed_row, PlanList}
+use Rattle.transyt_climbs.specs.Climbs.{climbed_row, NetworkListValue}
 use Rattle.transyt_climbs.specs.declared.scan_word.ScanWord.{ScanWord}
 pub use Rattle.transyt_climbs.specs.declared.scan_row.ScanRow.{ScanRow}
-use Rattle.transyt_climbs.specs.declared.plans.Planned.TheVariants as plan
-use Rattle.transyt_climbs.specs.declared.row.PlanRow.TheVariants as row
+use Rattle.transyt_climbs.specs.declared.networks.NetworkAt.TheVariants as plan
+use Rattle.transyt_climbs.specs.declared.row.NetworkRow.TheVariants as row
 
 -- the row at a place that has none
 abbrev pub no_row : ScanRow
@@ -56,11 +56,11 @@ scan_of workers low high by =
     if nat_le 1 workers && nat_le workers 8 then option_map (over_times workers) (times_within low high by) else None
 
 -- the cycle times, each with the network at it: its cycle is this one, and all else is as it is
-abbrev pub listed : CycleTimes → PlanList
+abbrev pub listed : CycleTimes → NetworkListValue
 listed times = record {
   count = cycle_count times;
   number = cycle_at times;
-  planned = λ net place. plan.Plan (with_cycle net (cycle_at times place));
+  network = λ net place. plan.Plan (with_cycle net (cycle_at times place));
 }
 
 -- a climb as a row
@@ -68,7 +68,7 @@ abbrev pub scan_row : Climbed → ScanRow
 scan_row c = record { cycle = c.number; from = c.from; took = c.took; local = c.local; looked = c.looked; to = c.to }
 
 -- the row of a cycle time, by that of its network, each of which is climbed
-abbrev pub scan_row_of : PlanRow → ScanRow
+abbrev pub scan_row_of : NetworkRow → ScanRow
 scan_row_of (row.Climbed c) = scan_row c
 scan_row_of (row.Barred number node) = record no_row { cycle = number }
 scan_row_of (row.NoPlan number) = record no_row { cycle = number }

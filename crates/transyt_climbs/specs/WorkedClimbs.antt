@@ -4,13 +4,13 @@ use Rattle.std.specs.List.{range_with_len}
 use Rattle.transyt_parts.specs.Made.{new_stage, new_link, new_plan}
 use Rattle.transyt_net.specs.Parts.{Network}
 use Rattle.transyt_climbs.specs.declared.times.CycleTimes.{CycleTimes}
-use Rattle.transyt_climbs.specs.declared.plans.Planned.{Planned}
-use Rattle.transyt_climbs.specs.declared.plans.Planned.TheVariants as plan
+use Rattle.transyt_climbs.specs.declared.networks.NetworkAt.{NetworkAt}
+use Rattle.transyt_climbs.specs.declared.networks.NetworkAt.TheVariants as plan
 use Rattle.transyt_climbs.specs.declared.row.Climbed.{Climbed}
-use Rattle.transyt_climbs.specs.declared.row.PlanRow.{PlanRow}
-use Rattle.transyt_climbs.specs.declared.row.PlanRow.TheVariants as row
+use Rattle.transyt_climbs.specs.declared.row.NetworkRow.{NetworkRow}
+use Rattle.transyt_climbs.specs.declared.row.NetworkRow.TheVariants as row
 use Rattle.transyt_climbs.specs.Times.{cycle_at, cycle_count, times_of}
-use Rattle.transyt_climbs.specs.Climbs.{PlanList}
+use Rattle.transyt_climbs.specs.Climbs.{NetworkListValue}
 
 -- all cycle times, in their order
 abbrev pub listed : CycleTimes → List ℕ
@@ -36,25 +36,25 @@ climbed_at number from took local looked to =
     record { number = number; from = from; took = took; local = local; looked = looked; to = to }
 
 -- the network at each of four places: none, the network itself, a barred one, and the network with fewer looks
-abbrev pub planned_of : Network → ℕ → Planned
-planned_of net place =
+abbrev pub one_of_four : Network → ℕ → NetworkAt
+one_of_four net place =
     if place == 0 then plan.NoPlan
     else if place == 1 then plan.Plan net
     else if place == 2 then plan.Barred 7
     else plan.Plan (record net { plan = Some (new_plan 4 (2 ∷ [])) })
 
 -- four places, numbered from 50 by 8
-abbrev pub four_plans : PlanList
-four_plans = record { count = 4; number = λ place. 50 + 8 * place; planned = planned_of }
+abbrev pub four_networks : NetworkListValue
+four_networks = record { count = 4; number = λ place. 50 + 8 * place; network = one_of_four }
 
 -- rows of which the third and the fifth have the least index at the end
-abbrev pub five_rows : List PlanRow
+abbrev pub five_rows : List NetworkRow
 five_rows =
     row.NoPlan 42 ∷ row.Climbed (climbed_at 50 9 1 true 11 7) ∷ row.Climbed (climbed_at 58 8 2 false 20 3)
     ∷ row.Barred 66 21 ∷ row.Climbed (climbed_at 74 5 4 true 13 3) ∷ []
 
 -- rows of which none is climbed
-abbrev pub no_climbs : List PlanRow
+abbrev pub no_climbs : List NetworkRow
 no_climbs = row.Barred 42 21 ∷ row.NoPlan 50 ∷ []
 
 -- a junction with one link, which runs in its second stage, by the change of its first stage; its climb plan has three

@@ -3,16 +3,16 @@
 ghost use Rattle.std.specs.Prelude.{◌≡◌, ◌^◌, ◌≤◌, ◌<◌, None, IfOk, IfSome};
 ghost use Rattle.transyt_climbs.specs.Climbs.{climbed_row, own_climb, end_of, row_at, row_of};
 
-use crate::bench::Bench;
-use crate::plans::{Planned, Plans};
-use crate::row::{Climbed, PlanRow};
+use crate::gate::ClimbGate;
+use crate::networks::{NetworkAt, NetworkList};
+use crate::row::{Climbed, NetworkRow};
+use crate::work::Work;
 use std::alloc::{AllocError, Global};
-use std::marker::Brand;
-use std::sync::ledger::{Blank, Ledger};
+use std::sync::ledger::Ledger;
 use transyt_climb::{Climber, climb_on};
 use transyt_net::Net;
 use transyt_session::Session;
-use transyt_steps::Steps;
+use transyt_steps::{Counting, Steps, uncounted};
 
 /// Climbs a session's network once by its climb plan. Without a plan there is nothing to look at, so that the row has 0
 /// steps, LOCAL and 0 looks.
@@ -44,128 +44,119 @@ fn climb_once<L: Ledger>(number: u32, session: &mut Session, steps: &mut Steps<L
     }
 }
 
-/// The row of a network, by a session and a counter of steps of its own.
-fn climb_net<L: Ledger>(
+/// A network that is climbed on for its row, by a session of its own.
+#[derive(Drop)]
+struct RowClimb {
     alloc: Global,
     number: u32,
     net: Net,
-    blank: Blank,
-) -> Result<Climbed, AllocError>
-    requires name { blank.name ≡ L.name }
-    requires parts { blank.parts ≡ L.parts }
-    requires some { 0 < L.parts }
-    ensures { IfOk result (λ row. row ≡ climbed_row number net) }
-{
-    let mut steps = Steps::<L>::begin(blank);
-    let mut session = Session::open(alloc, net, &mut steps)?;
-    let row = climb_once(number, &mut session, &mut steps);
-    drop(session);
-    Ok(row)
 }
 
-/// The network at the end of the climb of a network, by a session and a counter of steps of its own.
-fn climb_to_end<L: Ledger>(alloc: Global, net: Net, blank: Blank) -> Result<Net, AllocError>
-    requires name { blank.name ≡ L.name }
-    requires parts { blank.parts ≡ L.parts }
-    requires some { 0 < L.parts }
-    ensures { IfOk result (λ end. end ≡ (own_climb net).net) }
-{
-    let mut steps = Steps::<L>::begin(blank);
-    let mut session = Session::open(alloc, net, &mut steps)?;
-    let _ = climb_once(0, &mut session, &mut steps);
-    let end = session.net().copy(alloc);
-    drop(session);
-    end
+impl Counting for RowClimb {
+    type Answer = Result<Climbed, AllocError>;
+
+    ghost use Rattle.std.specs.Prelude.{◌≡◌, ⊤, IfOk};
+    ghost use Rattle.transyt_climbs.specs.Climbs.{climbed_row};
+
+    ghost needs = { λ _. ⊤ };
+
+    ghost gives = { λ self result. IfOk result (λ row. row ≡ climbed_row self.number self.net) };
+
+    fn count_on<L: Ledger>(self, steps: &mut Steps<L>) -> Result<Climbed, AllocError> {
+        let mut session = Session::open(self.alloc, self.net, steps)?;
+        let row = climb_once(self.number, &mut session, steps);
+        drop(session);
+        Ok(row)
+    }
+}
+
+/// A network that is climbed on for the network at the end, by a session of its own.
+#[derive(Drop)]
+struct EndClimb {
+    alloc: Global,
+    net: Net,
+}
+
+impl Counting for EndClimb {
+    type Answer = Result<Net, AllocError>;
+
+    ghost use Rattle.std.specs.Prelude.{◌≡◌, ⊤, IfOk};
+    ghost use Rattle.transyt_climbs.specs.Climbs.{own_climb};
+
+    ghost needs = { λ _. ⊤ };
+
+    ghost gives = { λ self result. IfOk result (λ end. end ≡ (own_climb self.net).net) };
+
+    fn count_on<L: Ledger>(self, steps: &mut Steps<L>) -> Result<Net, AllocError> {
+        let mut session = Session::open(self.alloc, self.net, steps)?;
+        let _ = climb_once(0, &mut session, steps);
+        let end = session.net().copy(self.alloc);
+        drop(session);
+        end
+    }
 }
 
 /// The network at the end of the climb of a network, if there is one to climb on.
-fn end_of(alloc: Global, planned: Planned) -> Result<Option<Net>, AllocError>
-    ensures { IfOk result (λ end. end ≡ end_of planned) }
+fn end_of(alloc: Global, at: NetworkAt) -> Result<Option<Net>, AllocError>
+    ensures { IfOk result (λ end. end ≡ end_of at) }
 {
-    match planned {
-        Planned::Plan(net) => {
-            let end = climb_to_end::<Brand>(alloc, net, Blank::new(1))?;
+    match at {
+        NetworkAt::Plan(net) => {
+            let end = uncounted(EndClimb { alloc, net })?;
             Ok(Some(end))
         }
         _ => Ok(None),
     }
 }
 
-/// The network at the end of the climb at a place, if there is a network to climb on. Without a climb plan it is the
-/// network that the climb begins with.
-pub fn end_at<P: Plans>(
-    alloc: Global,
-    asked: &P,
-    net: &Net,
-    place: usize,
-) -> Result<Option<Net>, AllocError>
-    requires fits { P.fits asked.now }
-    requires place { place < (P.list asked.now).count }
-    ensures { IfOk result (λ end. end ≡ end_of ((P.list asked.now).planned net.now place)) }
-{
-    let planned = asked.plan(alloc, net, place)?;
-    end_of(alloc, planned)
-}
-
 /// The row of a network, or of the reason why there is none.
-fn row_of<L: Ledger>(
-    alloc: Global,
-    number: u32,
-    planned: Planned,
-    blank: Blank,
-) -> Result<PlanRow, AllocError>
-    requires name { blank.name ≡ L.name }
-    requires parts { blank.parts ≡ L.parts }
-    requires some { 0 < L.parts }
-    ensures { IfOk result (λ row. row ≡ row_of number planned) }
+fn row_of(alloc: Global, number: u32, at: NetworkAt) -> Result<NetworkRow, AllocError>
+    ensures { IfOk result (λ row. row ≡ row_of number at) }
 {
-    match planned {
-        Planned::Plan(net) => {
-            let climbed = climb_net::<L>(alloc, number, net, blank)?;
-            Ok(PlanRow::Climbed(climbed))
+    match at {
+        NetworkAt::Plan(net) => {
+            let climbed = uncounted(RowClimb { alloc, number, net })?;
+            Ok(NetworkRow::Climbed(climbed))
         }
-        Planned::Barred { node } => Ok(PlanRow::Barred { number, node }),
-        Planned::NoPlan => Ok(PlanRow::NoPlan { number }),
+        NetworkAt::Barred { node } => Ok(NetworkRow::Barred { number, node }),
+        NetworkAt::NoPlan => Ok(NetworkRow::NoPlan { number }),
     }
 }
 
-/// The networks that are climbed on, made out of one network, each with memory of its own, and the bench.
-#[derive(Drop)]
-pub struct Work<'a, P, B> {
-    /// Where memory comes from.
-    pub alloc: Global,
-    /// The networks that are asked for.
-    pub asked: &'a P,
-    /// The network that they are made out of.
-    pub net: &'a Net,
-    /// The bench that each climb passes.
-    pub bench: &'a B,
-}
-
-/// The row at a place; none where memory is out.
-fn row_at<P: Plans, B: Bench>(work: &Work<'_, P, B>, place: usize) -> Option<PlanRow>
-    requires fits { P.fits work.now.asked.now }
-    requires place { place < (P.list work.now.asked.now).count }
+/// The row of the network at a place; none where memory is out.
+fn row_at<P: NetworkList, B>(work: &Work<'_, P, B>, place: usize) -> Option<NetworkRow>
+    requires { place < (P.list work.now.asked.now).count }
     ensures { IfSome result (λ row. row
         ≡ row_at (P.list work.now.asked.now) work.now.net.now place) }
 {
-    let Ok(planned) = work.asked.plan(work.alloc, work.net, place) else {
+    let Ok(at) = work.asked.network(work.alloc, work.net, place) else {
         return None;
     };
-    let number = work.asked.number(place);
-    row_of::<Brand>(work.alloc, number, planned, Blank::new(1)).ok()
+    row_of(work.alloc, work.asked.number(place), at).ok()
 }
 
-/// The row at a place, made between entering and leaving the bench; none where memory is out.
-pub(crate) fn pass_bench<P: Plans, B: Bench>(work: &Work<'_, P, B>, place: usize) -> Option<PlanRow>
-    requires fits { P.fits work.now.asked.now }
-    requires place { place < (P.list work.now.asked.now).count }
-    ensures { IfSome result (λ row. row
-        ≡ row_at (P.list work.now.asked.now) work.now.net.now place) }
-{
-    let number = work.asked.number(place);
-    work.bench.enter(number);
-    let row = row_at(work, place);
-    work.bench.leave(number);
-    row
+impl<'a, P: NetworkList, B: ClimbGate> Work<'a, P, B> {
+    /// The row at a place, made between entering and leaving the gate; none where memory is out.
+    pub(crate) fn pass_gate(&self, place: usize) -> Option<NetworkRow>
+        requires { place < (P.list self.now.asked.now).count }
+        ensures { IfSome result (λ row. row
+            ≡ row_at (P.list self.now.asked.now) self.now.net.now place) }
+    {
+        let number = self.asked.number(place);
+        self.gate.enter(number);
+        let row = row_at(self, place);
+        self.gate.leave(number);
+        row
+    }
+
+    /// The network at the end of the climb at a place, if there is a network to climb on. Without a climb plan it is the
+    /// network that the climb begins with.
+    pub fn end_at(&self, place: usize) -> Result<Option<Net>, AllocError>
+        requires { place < (P.list self.now.asked.now).count }
+        ensures { IfOk result (λ end. end
+            ≡ end_of ((P.list self.now.asked.now).network self.now.net.now place)) }
+    {
+        let at = self.asked.network(self.alloc, self.net, place)?;
+        end_of(self.alloc, at)
+    }
 }

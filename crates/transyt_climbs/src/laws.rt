@@ -2,11 +2,11 @@
 
 ghost use Rattle.std.specs.Prelude.{◌≡◌, [], ◌∷◌, map, true, false, None, Some};
 ghost use Rattle.transyt_climb.specs.WorkedTurns.{idle};
-ghost use Rattle.transyt_climbs.specs.declared.plans.Planned.TheVariants as plan;
-ghost use Rattle.transyt_climbs.specs.declared.row.PlanRow.TheVariants as row;
+ghost use Rattle.transyt_climbs.specs.declared.networks.NetworkAt.TheVariants as plan;
+ghost use Rattle.transyt_climbs.specs.declared.row.NetworkRow.TheVariants as row;
 ghost use Rattle.transyt_climbs.specs.Times.{times_of, times_within};
 ghost use Rattle.transyt_climbs.specs.Climbs.{climbed_row, end_of, row_of, table, best};
-ghost use Rattle.transyt_climbs.specs.WorkedClimbs.{climbed_at, five_rows, four_plans, in_range, junction, listed, no_climbs};
+ghost use Rattle.transyt_climbs.specs.WorkedClimbs.{climbed_at, five_rows, four_networks, in_range, junction, listed, no_climbs};
 ghost use Rattle.transyt_climbs.specs.WorkedClimbs.{out_of_range, stayed};
 
 /// Worked cycle times: by a step that misses the highest and by one that meets it; and what may be asked for, each
@@ -22,7 +22,7 @@ pub fn worked_times()
 /// A table with rows of each kind, over a network on which no move lowers the index; without a climb plan nothing is
 /// looked at. On a junction with a link the third move lowers the index, and the network at the end has that move made.
 pub fn worked_rows()
-    ensures table { table four_plans idle
+    ensures table { table four_networks idle
         ≡ row.NoPlan 50 ∷ row.Climbed (stayed 58 true 6) ∷ row.Barred 66 7
         ∷ row.Climbed (stayed 74 false 4) ∷ [] }
     ensures unplanned { row_of 17 (plan.Plan (record idle { plan = None }))

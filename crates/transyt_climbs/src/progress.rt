@@ -2,7 +2,8 @@
 
 ghost use Rattle.std.specs.Prelude.{◌≡◌};
 
-use crate::row::PlanRow;
+use crate::deal::Deal;
+use crate::row::NetworkRow;
 use std::alloc::Global;
 use transyt_io::Sink;
 
@@ -16,10 +17,8 @@ const FEWEST_CLIMBS: usize = 4;
 /// many where there are several workers.
 #[derive(Clone, Copy, Drop)]
 pub(crate) struct Progress {
-    /// How many climbs the run has.
-    pub(crate) count: usize,
-    /// How many workers there are.
-    pub(crate) workers: usize,
+    /// How the climbs of the run are dealt to the workers.
+    pub(crate) deal: Deal,
     /// How many turns are done.
     pub(crate) done: usize,
     /// The least index at the end of the worker's climbs so far.
@@ -28,19 +27,18 @@ pub(crate) struct Progress {
 
 impl Progress {
     /// No climb is done.
-    pub(crate) fn new(count: usize, workers: usize) -> Progress {
+    pub(crate) fn new(deal: Deal) -> Progress {
         Progress {
-            count,
-            workers,
+            deal,
             done: 0,
             least: None,
         }
     }
 
     /// A turn more is done, with this row.
-    fn note(&mut self, row: Option<PlanRow>) {
+    fn note(&mut self, row: Option<NetworkRow>) {
         self.done = self.done.saturating_add(1);
-        if let Some(PlanRow::Climbed(climbed)) = row {
+        if let Some(NetworkRow::Climbed(climbed)) = row {
             self.least = match self.least {
                 Some(least) => Some(least.min(climbed.to)),
                 None => Some(climbed.to),
@@ -50,11 +48,10 @@ impl Progress {
 
     /// Whether a remark is due: at each fiftieth part of the turns, and not at the last.
     fn is_due(self) -> bool {
-        let climbed = self.done.saturating_mul(self.workers);
-        let part = self
-            .count
-            .div_ceil(self.workers.saturating_mul(MOST_REMARKS).max(1));
-        self.count >= FEWEST_CLIMBS && climbed < self.count && self.done.is_multiple_of(part.max(1))
+        let climbed = self.done.saturating_mul(self.deal.workers);
+        let Deal { count, workers, .. } = self.deal;
+        let part = count.div_ceil(workers * MOST_REMARKS);
+        count >= FEWEST_CLIMBS && climbed < count && self.done.is_multiple_of(part.max(1))
     }
 
     /// Tells the sink how far the run is.
@@ -62,7 +59,7 @@ impl Progress {
         ensures written { K.written sink.new ≡ K.written sink.old }
         ensures faults { K.faults sink.new ≡ K.faults sink.old }
     {
-        let (count, workers) = (self.count, self.workers);
+        let Deal { count, workers, .. } = self.deal;
         let climbed = self.done.saturating_mul(workers);
         let text = if workers == 1 {
             format!(in alloc; "climb {climbed} of {count}, least so far {least}")
@@ -77,7 +74,7 @@ impl Progress {
     }
 
     /// Notes the row of a turn, and tells the sink how far the run is where a remark is due.
-    pub(crate) fn end_turn<K: Sink>(&mut self, alloc: Global, row: Option<PlanRow>, sink: &mut K)
+    pub(crate) fn end_turn<K: Sink>(&mut self, alloc: Global, row: Option<NetworkRow>, sink: &mut K)
         ensures written { K.written sink.new ≡ K.written sink.old }
         ensures faults { K.faults sink.new ≡ K.faults sink.old }
     {

@@ -3,7 +3,7 @@
 ghost use Rattle.std.specs.Prelude.{◌≡◌, length};
 ghost use Rattle.transyt_climbs.specs.Climbs.{AreBest, best, better, first_lower};
 
-use crate::row::PlanRow;
+use crate::row::NetworkRow;
 
 /// The best row of a table.
 #[derive(Clone, Copy, Drop)]
@@ -27,10 +27,10 @@ fn first_lower(best: Option<BestRow>, later: BestRow) -> BestRow
 }
 
 /// The best so far, with the row at a place.
-fn better(best: Option<BestRow>, place: usize, row: PlanRow) -> Option<BestRow>
+fn better(best: Option<BestRow>, place: usize, row: NetworkRow) -> Option<BestRow>
     ensures { result ≡ better best place row }
 {
-    let PlanRow::Climbed(climbed) = row else {
+    let NetworkRow::Climbed(climbed) = row else {
         return best;
     };
     let later = BestRow {
@@ -42,7 +42,7 @@ fn better(best: Option<BestRow>, place: usize, row: PlanRow) -> Option<BestRow>
 }
 
 /// The climbed row with the least index at its end, the first among equals; none where no row is climbed.
-pub fn best(rows: &[PlanRow]) -> Option<BestRow>
+pub fn best(rows: &[NetworkRow]) -> Option<BestRow>
     ensures value { result ≡ best rows.now }
     ensures least { AreBest rows.now (length rows.now) result }
 {

@@ -19,7 +19,7 @@ pub struct Climbed {
 
 /// A row: a climb, or why there is no network to climb on.
 #[derive(Clone, Copy, Drop)]
-pub enum PlanRow {
+pub enum NetworkRow {
     /// There is no such network: the number of the row.
     NoPlan { number: u32 },
     /// The stages of a node don't fit into the cycle: the number of the row, and that of the node.

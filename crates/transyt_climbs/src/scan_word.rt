@@ -3,10 +3,7 @@
 ghost use Rattle.std.specs.Prelude.{◌≡◌, IfSome};
 ghost use Rattle.transyt_climbs.specs.Scan.{IsScan, scan_of};
 
-use crate::plans::{Planned, Plans};
 use crate::times::CycleTimes;
-use std::alloc::{AllocError, Global};
-use transyt_net::Net;
 
 /// Climbs over cycle times, with so many workers.
 #[derive(Clone, Copy, Drop)]
@@ -29,30 +26,5 @@ impl ScanWord {
         }
         let times = CycleTimes::new(low, high, by)?;
         Some(ScanWord { workers, times })
-    }
-}
-
-impl Plans for ScanWord {
-    ghost use Rattle.transyt_climbs.specs.Scan.{IsScan, listed};
-
-    ghost fits = { IsScan };
-
-    ghost list = { λ self. listed self.times };
-
-    fn workers(&self) -> usize {
-        self.workers as usize
-    }
-
-    fn count(&self) -> usize {
-        self.times.count()
-    }
-
-    fn number(&self, place: usize) -> u32 {
-        self.times.at(place)
-    }
-
-    fn plan(&self, alloc: Global, net: &Net, place: usize) -> Result<Planned, AllocError> {
-        let net = net.with_cycle(alloc, self.times.at(place))?;
-        Ok(Planned::Plan(net))
     }
 }

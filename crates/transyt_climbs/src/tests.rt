@@ -13,7 +13,7 @@ const ONE: &str =
 /// How often a climb looks whether the other has come before it goes on alone.
 const LOOKS: u32 = 2_000_000;
 
-/// A bench at which the climbs of cycle times 60 and 120 wait for each other, for so many looks at most. It counts the
+/// A gate at which the climbs of cycle times 60 and 120 wait for each other, for so many looks at most. It counts the
 /// entries of both, and how often one went on alone.
 #[derive(Drop)]
 struct Meeting {
@@ -52,18 +52,18 @@ fn climb_together<R: Threads + Sync>(rt: &R, alloc: Global) -> Option<(ScanRow, 
     let Ok(cut) = cut_deck(alloc, ONE.as_bytes()) else {
         return None;
     };
-    let bench = Meeting {
+    let gate = Meeting {
         short: AtomicU64::new(0),
         long: AtomicU64::new(0),
         alone: AtomicU64::new(0),
     };
-    let Ok(rows) = scan(rt, alloc, &cut.net, 60, 120, 60, 2, &bench) else {
+    let Ok(rows) = scan(rt, alloc, &cut.net, 60, 120, 60, 2, &gate) else {
         return None;
     };
     let entries = (
-        bench.short.load(Ordering::SeqCst),
-        bench.long.load(Ordering::SeqCst),
-        bench.alone.load(Ordering::SeqCst),
+        gate.short.load(Ordering::SeqCst),
+        gate.long.load(Ordering::SeqCst),
+        gate.alone.load(Ordering::SeqCst),
     );
     Some((rows[least(&rows)], entries))
 }

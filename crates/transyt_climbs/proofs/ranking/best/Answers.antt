@@ -1,7 +1,7 @@
 -- One row more.
 use Rattle.std.proofs.Common.{◌+◌, List, drop, get_or, sym, ◌∙◌, ap, subst, add-one, drop-cons}
-use Rattle.transyt_climbs.specs.declared.row.PlanRow.{PlanRow}
-use Rattle.transyt_climbs.specs.declared.row.PlanRow.TheVariants as row
+use Rattle.transyt_climbs.specs.declared.row.NetworkRow.{NetworkRow}
+use Rattle.transyt_climbs.specs.declared.row.NetworkRow.TheVariants as row
 use Rattle.transyt_climbs.specs.Climbs.{AreBest, best_from, better}
 use Rattle.transyt_climbs.proofs.BestLaws.{with_row}
 use Rattle.transyt_climbs.proofs.ranking.best.Goals as goal
@@ -9,9 +9,9 @@ use Rattle.transyt_climbs.proofs.ranking.best.Goals as goal
 -- the best of the rows before the next
 pub loop-place-preserved : goal.loop-place-preserved
 loop-place-preserved c =
-    let rows : List PlanRow = c.args.rows.now in
+    let rows : List NetworkRow = c.args.rows.now in
     let place = c.loop-place.place in
-    let next : List PlanRow = drop (place + 1) rows in
+    let next : List NetworkRow = drop (place + 1) rows in
     record {
       found = subst (AreBest rows (place + 1)) (sym c.better-best.ensures) (with_row rows place c.loop-place.best c.loop-place.invariant.found);
       rest =

@@ -9,7 +9,7 @@ pub returns-clause-table : goal.returns-clause-table
 returns-clause-table g c =
     let lent : c.deref.result.now ≡ c.in_ok-rows.rows.items = search rules in
     IfOk-weaker c.scan_rows.result (λ made. made.items ≡ map scan_row_of c.deref.result.now)
-    (λ rows. rows.items ≡ table c.args.work.now.net.now c.args.work.now.asked.now.times)
+    (λ rows. rows.items ≡ table c.args.work.now.net.now c.args.work.now.asked.now.asked.times)
     (λ rows made. made ∙ ap (map scan_row_of) (lent ∙ c.in_ok-rows.ensures.table)
-    ∙ table_rows c.args.work.now.net.now c.args.work.now.asked.now.times)
+    ∙ table_rows c.args.work.now.net.now c.args.work.now.asked.now.asked.times)
     c.scan_rows.ensures

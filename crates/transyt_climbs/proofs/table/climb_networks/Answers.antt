@@ -1,20 +1,20 @@
 -- The rows that were gathered are the table.
-use Rattle.std.proofs.Common.{◌≡◌, ◌*◌, ℕ, List, Option, None, map, drop, length, get_or, ap, ◌∙◌, arith, rules}
+use Rattle.std.proofs.Common.{◌≡◌, ◌*◌, List, Option, None, map, drop, length, get_or, ap, ◌∙◌, arith, rules}
 use Rattle.std.proofs.lemmas.List.{take-append-le, take_all}
 use Rattle.std.proofs.lemmas.Result.{IfOk-weaker}
 use Rattle.std.specs.List.{range_with_len}
-use Rattle.transyt_climbs.specs.declared.row.PlanRow.{PlanRow}
+use Rattle.transyt_climbs.specs.declared.row.NetworkRow.{NetworkRow}
 use Rattle.transyt_climbs.specs.Climbs.{row_at, table}
 use Rattle.transyt_climbs.specs.Deals.{AreGathered, slot_of}
 use Rattle.transyt_climbs.proofs.DealLaws.{rows_gathered}
-use Rattle.transyt_climbs.proofs.table.climb_plans.Goals as goal
+use Rattle.transyt_climbs.proofs.table.climb_networks.Goals as goal
 
 -- each slot holds the row of its place, where all are there
 pub returns-clause-table : goal.returns-clause-table
 returns-clause-table g c =
-    let slots : List (Option PlanRow) = c.fill_all.new.rows in
+    let slots : List (Option NetworkRow) = c.fill_all.new.rows in
     let deal = c.new-deal.result in
-    let asked = g.P.Plans.list c.args.work.now.asked.now in
+    let asked = g.P.NetworkList.list c.args.work.now.asked.now in
     let net = c.args.work.now.net.now in
     let all : length c.as_mut_slice.result.now ≡ deal.workers * deal.turns = search rules in
     let held : length c.as_mut_slice.result.now ≡ c.in_ok-slots.slots.len = search rules in
@@ -27,7 +27,7 @@ returns-clause-table g c =
     IfOk-weaker c.gathered.result (λ rows. AreGathered deal c.deref.result.now rows.items)
     (λ rows. rows.items ≡ table asked net)
     (λ rows found.
-    rows_gathered (row_at asked net) deal slots rows.items c.new-deal.ensures.deal (c.fill_all.ensures.len ∙ all)
+    rows_gathered (row_at asked net) deal slots rows.items (c.fill_all.ensures.len ∙ all)
     (λ k d less. c.fill_all.ensures.made k d (omega (arith, less, c.fill_all.ensures.len)))
     (record {
       all = found.all;
