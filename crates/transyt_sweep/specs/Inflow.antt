@@ -1,9 +1,8 @@
 -- A link's feeds, worked out side by side, with factors that are worked out of a feed's numbers once. No public clause
 -- cites it.
-use Rattle.std.specs.Prelude.{◌≡◌, ℕ, List, ◌-◌, ◌*◌, ◌^◌, ◌<◌, ◌≤◌, All, fold, length, slice_index_or}
-use Rattle.transyt_profile.specs.Profile.{IsPart, shared, added, folded}
+use Rattle.std.specs.Prelude.{◌≡◌, ℕ, List, ◌-◌, ◌*◌, ◌%◌, ◌^◌, ◌<◌, ◌≤◌, All, fold, length, slice_index_or}
+use Rattle.transyt_profile.specs.Profile.{shared, added, folded}
 use Rattle.transyt_profile.specs.Platoon.{travel_steps, dispersed}
-use Rattle.transyt_profile.specs.Travels.{IsTravel}
 use Rattle.transyt_parts.specs.declared.frame.Frame.{Frame}
 use Rattle.transyt_parts.specs.declared.link.Feed.{Feed}
 use Rattle.transyt_parts.specs.Parts.{total_flow}
@@ -14,10 +13,9 @@ use Rattle.transyt_sweep.specs.Cell.{brought}
 use Rattle.transyt_sweep.specs.declared.inputs.Inputs.{Inputs}
 use Rattle.transyt_sweep.specs.Reading.{read_in}
 
--- they are right for the numbers that they name, in a cycle of so many steps
+-- their travel is right for the numbers that they name, in a cycle of so many steps
 pub record AreFactors (steps : ℕ) (f : Factors) : Type 0 where
-  pub part : IsPart f.part
-  pub travel : IsTravel steps f.travel
+  pub place : f.travel.place ≡ f.travel.time % steps
   pub time : f.travel.time ≡ travel_steps f.cruise steps f.cycle
 
 -- the numbers that they name are a feed's, whose feeder is at this place and lets `total` vehicles per hour go
@@ -64,6 +62,11 @@ pub record Served (net : Network) (feed : Feed) (f : Factors) : Type 0 where
   pub are : AreFactors net.frame.step_count f
   pub serve : ServeIn net feed f
   pub below : f.feeder < length net.links
+
+-- there are so many slots, and the factors in each are right in a cycle of so many steps
+pub record HaveSlots (steps count : ℕ) (slots : List Factors) : Type 0 where
+  pub len : length slots ≡ count
+  pub are : All (AreFactors steps) slots
 
 -- each slot has the factors of the feed at its place
 pub record AreServed (net : Network) (feeds : List Feed) (slots : List Factors) : Type 0 where

@@ -3,6 +3,7 @@
 ghost use Rattle.std.specs.Prelude.{◌≡◌, ◌^◌, ◌<◌, ◌≤◌, length, All, IfOk};
 
 use std::alloc::{AllocError, Global};
+use transyt_net::Net;
 
 /// The rows of one link at one sweep, in millionths of a vehicle: each has a value for each step of the cycle.
 pub(crate) struct CellRows {
@@ -42,12 +43,11 @@ impl Drop for CellRows {
 }
 
 impl CellRows {
-    /// Rows in which all is 0.
-    pub(crate) fn empty(alloc: Global, step_count: usize) -> Result<CellRows, AllocError>
-        requires some { 0 < step_count }
-        requires most { step_count ≤ 120 }
-        ensures { IfOk result (λ rows. length rows.arrivals.items ≡ step_count) }
+    /// Rows for the network's steps in which all is 0.
+    pub(crate) fn empty(alloc: Global, net: &Net) -> Result<CellRows, AllocError>
+        ensures { IfOk result (λ rows. length rows.arrivals.items ≡ net.now.frame.step_count) }
     {
+        let step_count = net.frame().step_count as usize;
         let arrivals = vec![in alloc; 0; step_count]?;
         let go = vec![in alloc; 0; step_count]?;
         let cut = vec![in alloc; 0; step_count]?;

@@ -7,6 +7,7 @@ ghost use Rattle.transyt_kept.specs.Cell.{AreSmall};
 ghost use Rattle.transyt_sweep.specs.Reading.{reweighed};
 ghost use Rattle.transyt_sweep.specs.Scratch.{AreWeights};
 
+use crate::inputs::Inputs;
 use transyt_delay::{Figures, TermsFrame, weigh};
 use transyt_net::Net;
 use transyt_profile::Totals;
@@ -29,15 +30,14 @@ pub(crate) enum LazyFigures {
     Open(Weights, Totals),
 }
 
-/// The weights of the link at a place.
-pub(crate) fn weights_of(net: &Net, link: usize) -> Weights
-    requires link { link < length net.now.links }
-    ensures frame { result.frame ≡ terms_frame net.now.frame }
-    ensures link { result.link ≡ (link_of net.now link).weights }
+/// The weights of the link of a cell.
+pub(crate) fn weights_of(inputs: &Inputs<'_>) -> Weights
+    ensures frame { result.frame ≡ terms_frame inputs.now.net.now.frame }
+    ensures link { result.link ≡ (link_of inputs.now.net.now inputs.now.link).weights }
     ensures are { AreWeights result }
 {
-    let frame = net.frame();
-    let at = net.link(link);
+    let frame = inputs.net.frame();
+    let at = inputs.net.link(inputs.link);
     Weights {
         frame: TermsFrame {
             cycle: frame.cycle,

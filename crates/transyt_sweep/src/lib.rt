@@ -28,18 +28,23 @@
 //! - The figures of a `Scratch` are seen as those that its rows give. They are worked out only when a caller asks for
 //!   them, from its rows and from the sums of arrivals and GO: `Rows` keeps the figures of the last sweep alone.
 //! - The network, the rows, the link and the sweep of one cell go from call to call as one value (`src/inputs.rt`),
-//!   whose ghost fields say that they fit.
+//!   whose ghost fields say that they fit. So do a feed with its feeder (`src/source.rt`) and the feeds of a link
+//!   (`src/feeds.rt`).
 #![tactic(auto)]
 
 mod cell_rows;
 mod factors;
+mod feeds;
 mod figures;
 mod inflow;
 mod inputs;
 mod laws;
+mod renewing;
 mod rows;
 mod scratch;
 mod sending;
+mod source;
+mod sweep;
 mod whole;
 mod working;
 

@@ -6,13 +6,13 @@ ghost use Rattle.transyt_kept.specs.Cell.{AreSmall};
 ghost use Rattle.transyt_sweep.specs.Scratch.{CanWeigh, terms_in};
 
 use crate::cell_rows::CellRows;
-use crate::factors::{Factors, factors_of};
+use crate::factors::Factors;
 use crate::figures::{LazyFigures, Weights};
 use std::alloc::{AllocError, Global};
 use std::marker::Model;
 use std::mem::size_of;
 use transyt_delay::{Figures, Terms, figures_of};
-use transyt_net::{Feed, Net};
+use transyt_net::Net;
 use transyt_profile::{Totals, stopped, total};
 
 /// The bytes of a scratch for each link of its network: eight feeds, and the factors that were worked out last of each.
@@ -61,14 +61,9 @@ impl Scratch {
         ensures { IfOk result (λ s. length s.arrivals ≡ net.now.frame.step_count) }
     {
         let step_count = net.frame().step_count as usize;
-        let none = Feed {
-            feeder: 0,
-            flow: 0,
-            cruise: 0,
-        };
         let room = vec![in alloc; 0; 8 * step_count]?;
-        let factors = vec![in alloc; factors_of(net, none, 0, 0); 8 * net.links().len()]?;
-        let Ok(rows) = CellRows::empty(alloc, step_count) else {
+        let factors = vec![in alloc; Factors::none(net); 8 * net.links().len()]?;
+        let Ok(rows) = CellRows::empty(alloc, net) else {
             drop(room);
             drop(factors);
             return Err(AllocError);

@@ -1,15 +1,16 @@
 //! The part of a feeder's departures that goes on to a link.
 
 ghost use Rattle.std.specs.Prelude.{◌≡◌, ◌^◌, ◌<◌, ◌≤◌, length, All, IsTrue};
-ghost use Rattle.transyt_parts.specs.declared.link.Feed.{Feed};
 ghost use Rattle.transyt_net.specs.Valid.{link_place};
 ghost use Rattle.transyt_profile.specs.Arriving.{arriving};
 ghost use Rattle.transyt_sweep.specs.Cell.{taken};
-ghost use Rattle.transyt_sweep.specs.Inflow.{AreFactors, AreSendable, IsSmall, Served, carried, read_by};
+ghost use Rattle.transyt_sweep.specs.Inflow.{AreFactors, AreSendable, Served, carried, read_by};
 
-use crate::factors::{Factors, renew};
+use crate::factors::Factors;
+use crate::feeds::OneFeed;
 use crate::inputs::Inputs;
-use transyt_net::{Feed, Net};
+use crate::source::Source;
+use transyt_net::Net;
 use transyt_profile::{Platoon, share_into};
 
 /// The place of a link's number; the first where there is no such link.
@@ -49,34 +50,41 @@ fn is_at(net: &Net, place: usize, number: u32) -> bool
     link.number == number
 }
 
-/// A feed's part of the departures that a cell reads of its feeder, written to `shared`.
-pub(crate) fn share_feed(inputs: &Inputs<'_>, feed: Feed, shared: &mut [u64])
-    requires flow { feed.flow ≤ 9999 }
-    requires shared_len { length shared.old ≡ inputs.now.step_count }
-    ensures value { shared.new ≡ taken inputs.now.net.now (read_by inputs.now) feed }
-    ensures small { All (λ v. v < 2 ^ 44) shared.new }
-{
-    let feeder = link_place(inputs, feed.feeder);
-    let departures = inputs.read(feeder);
-    let total = inputs.net.total_flow(feeder);
-    share_into(departures, feed.flow, total, shared);
-}
+impl OneFeed<'_> {
+    /// Its part of the departures that the cell reads of its feeder, written to `shared`.
+    pub(crate) fn share(&self, shared: &mut [u64])
+        requires { length shared.old ≡ self.now.inputs.now.step_count }
+        ensures value { shared.new ≡ taken self.now.inputs.now.net.now (read_by self.now.inputs.now)
+            self.now.feed }
+        ensures small { All (λ v. v < 2 ^ 44) shared.new }
+    {
+        let feeder = link_place(self.inputs, self.feed.feeder);
+        let departures = self.inputs.read(feeder);
+        let total = self.inputs.net.total_flow(feeder);
+        share_into(departures, self.feed.flow, total, shared);
+    }
 
-/// Works the factors that are kept in `slot` out anew, where they are not a feed's. Where its feeder was found last is
-/// looked at first.
-pub(crate) fn renew_feed(inputs: &Inputs<'_>, feed: Feed, slot: &mut Factors)
-    requires feed { IsSmall feed }
-    requires are { AreFactors inputs.now.net.now.frame.step_count slot.old }
-    ensures served { Served inputs.now.net.now feed slot.new }
-{
-    let net = inputs.net;
-    let feeder = feeder_place(inputs, feed.feeder, slot.feeder);
-    renew(net, feed, feeder, net.total_flow(feeder), slot);
+    /// Works the factors that are kept in `slot` out anew, where they are not the feed's. Where its feeder was found last
+    /// is looked at first.
+    pub(crate) fn renew(&self, slot: &mut Factors)
+        requires { AreFactors self.now.inputs.now.net.now.frame.step_count slot.old }
+        ensures { Served self.now.inputs.now.net.now self.now.feed slot.new }
+    {
+        let net = self.inputs.net;
+        let feeder = feeder_place(self.inputs, self.feed.feeder, slot.feeder);
+        let source = Source {
+            net,
+            feed: self.feed,
+            feeder,
+            whole: net.total_flow(feeder),
+        };
+        source.renew(slot);
+    }
 }
 
 /// The platoon of a feed, by the feed's factors.
 pub(crate) fn platoon<'a>(inputs: &Inputs<'a>, factors: &'a Factors) -> Platoon<'a>
-    requires factors { AreSendable inputs.now factors.now }
+    requires { AreSendable inputs.now factors.now }
     ensures steps { length result.leaving.now ≡ inputs.now.step_count }
     ensures brings { arriving result ≡ carried (read_by inputs.now) factors.now }
 {

@@ -8,6 +8,7 @@ ghost use Rattle.transyt_sweep.specs.Opened.{AreOpened};
 
 use crate::rows::RowsOfNetwork;
 use crate::scratch::Scratch;
+use crate::sweep::Sweep;
 use crate::working::cell;
 use std::alloc::{AllocError, Global};
 use std::sync::ledger::Ledger;
@@ -47,29 +48,26 @@ fn fill<L: Ledger>(net: &Net, rows: &mut Rows, scratch: &mut Scratch, steps: &mu
     ensures steps { steps.new ≡ steps.old + net.now.frame.sweeps * length net.now.links }
 {
     for sweep in 1..net.frame().sweeps + 1 {
-        fill_sweep(net, sweep, rows, scratch, steps);
+        let one = Sweep { net, number: sweep };
+        one.fill(rows, scratch, steps);
     }
 }
 
-/// Works out each link at one sweep.
-fn fill_sweep<L: Ledger>(
-    net: &Net,
-    sweep: u32,
-    rows: &mut Rows,
-    scratch: &mut Scratch,
-    steps: &mut Steps<L>,
-)
-    requires first { 1 ≤ sweep }
-    requires last { sweep ≤ net.now.frame.sweeps }
-    requires filled { AreFilled net.now sweep 0 rows.old.now }
-    requires step_count { length scratch.old.arrivals ≡ net.now.frame.step_count }
-    ensures filled { AreFilled net.now (sweep + 1) 0 rows.new.now }
-    ensures marked { rows.new.marked ≡ rows.old.marked }
-    ensures step_count { length scratch.new.arrivals ≡ net.now.frame.step_count }
-    ensures steps { steps.new ≡ steps.old + length net.now.links }
-{
-    for link in 0..net.links().len() {
-        cell(net, link, sweep, rows, scratch, steps);
-        rows.place(sweep, link, scratch);
+impl Sweep<'_> {
+    /// Works out each link at the sweep.
+    fn fill<L: Ledger>(&self, rows: &mut Rows, scratch: &mut Scratch, steps: &mut Steps<L>)
+        requires filled { AreFilled self.now.net.now self.now.number 0 rows.old.now }
+        requires step_count { length scratch.old.arrivals ≡ self.now.net.now.frame.step_count }
+        ensures filled { AreFilled self.now.net.now (self.now.number + 1) 0 rows.new.now }
+        ensures marked { rows.new.marked ≡ rows.old.marked }
+        ensures step_count { length scratch.new.arrivals ≡ self.now.net.now.frame.step_count }
+        ensures steps { steps.new ≡ steps.old + length self.now.net.now.links }
+    {
+        let net = self.net;
+        let sweep = self.number;
+        for link in 0..net.links().len() {
+            cell(net, link, sweep, rows, scratch, steps);
+            rows.place(sweep, link, scratch);
+        }
     }
 }

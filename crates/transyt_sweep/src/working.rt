@@ -9,7 +9,6 @@ ghost use Rattle.transyt_sweep.specs.Scratch.{AreTotals};
 
 use crate::cell_rows::CellRows;
 use crate::figures::{LazyFigures, weights_of};
-use crate::inflow::fill_inflow;
 use crate::inputs::Inputs;
 use crate::scratch::Scratch;
 use crate::sending::link_place;
@@ -48,15 +47,10 @@ pub fn cell<L: Ledger>(
         sweep,
         step_count: net.frame().step_count as usize,
     };
-    fill_inflow(
-        &inputs,
-        &mut scratch.factors,
-        &mut scratch.room,
-        &mut scratch.rows,
-    );
+    inputs.fill_inflow(&mut scratch.factors, &mut scratch.room, &mut scratch.rows);
     fill_go_under_rule(&inputs, &mut scratch.rows);
     let totals = work_out_queue(&mut scratch.rows);
-    scratch.asked = LazyFigures::Open(weights_of(net, link), totals);
+    scratch.asked = LazyFigures::Open(weights_of(&inputs), totals);
     steps.tick();
 }
 

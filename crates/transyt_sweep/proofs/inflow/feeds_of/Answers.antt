@@ -7,7 +7,7 @@ use Rattle.transyt_sweep.proofs.inflow.feeds_of.Goals as goal
 
 pub returns-clause-small : goal.returns-clause-small
 returns-clause-small c =
-    let numbers : List ℕ = link_numbers c.args.net.now.links in
+    let numbers : List ℕ = link_numbers c.args.inputs.now.net.now.links in
     feeds_small numbers c.as_slice.result.now
     (subst (All (IsFeed numbers)) (sym (c.as_slice.ensures.value ∙ ap (λ (l : LinkValue). l.feeds) c.at.view_is))
     c.link-at.ensures.kept.feeds)

@@ -8,28 +8,28 @@ use Rattle.transyt_net.specs.Parts.{Network, link_of, perstep}
 use Rattle.transyt_sweep.specs.Inflow.{AreFactors, read_by, with_feeds}
 use Rattle.transyt_sweep.proofs.InflowLaws.{all_small, started_room}
 use Rattle.transyt_sweep.proofs.SlotLaws.{are_put}
-use Rattle.transyt_sweep.proofs.inflow.fill_inflow.Goals as goal
+use Rattle.transyt_sweep.proofs.inputs.Inputs.fill_inflow.Goals as goal
 
 -- the feeds have slots, and room
-pub add_feeds-requires-clause-slots : goal.add_feeds-requires-clause-slots
-add_feeds-requires-clause-slots c =
-    let n : ℕ = c.args.inputs.now.net.now.frame.step_count in
+pub add_all-requires-clause-slots : goal.add_all-requires-clause-slots
+add_all-requires-clause-slots c =
+    let n : ℕ = c.args.self.now.net.now.frame.step_count in
     let own : ℕ = c.own_place-own.result in
     All-take (AreFactors n) (c.min-end.result - own) (drop own c.args.kept.now)
     (All-drop (AreFactors n) own c.args.kept.now c.requires.kept)
 
-pub add_feeds-requires-clause-turns : goal.add_feeds-requires-clause-turns
-add_feeds-requires-clause-turns c =
-    started_room c.args.inputs.now.step_count c.per_step-entry.result (length c.feeds_of-feeds.result.now)
-    c.start_turns.new.turns c.feeds_of-feeds.ensures.few (omega arith) c.per_step-entry.ensures.small
+pub add_all-requires-clause-turns : goal.add_all-requires-clause-turns
+add_all-requires-clause-turns c =
+    started_room c.args.self.now.step_count c.per_step-entry.result (length c.feeds_of.result.now)
+    c.start_turns.new.turns c.feeds_of.ensures.few (omega arith) c.per_step-entry.ensures.small
     c.start_turns.ensures
 
 -- all values of the two turns, folded, are small
 pub fold_into-requires-clause-fit : goal.fold_into-requires-clause-fit
 fold_into-requires-clause-fit c =
-    all_small c.args.inputs.now.step_count (length c.deref_mut.result.now) c.per_step-entry.result
-    (length c.feeds_of-feeds.result.now) c.start_turns.new.turns c.add_feeds.new.turns c.per_step-entry.ensures.small
-    c.start_turns.ensures c.feeds_of-feeds.ensures.few c.add_feeds.ensures.grows
+    all_small c.args.self.now.step_count (length c.deref_mut.result.now) c.per_step-entry.result
+    (length c.feeds_of.result.now) c.start_turns.new.turns c.add_all.new.turns c.per_step-entry.ensures.small
+    c.start_turns.ensures c.feeds_of.ensures.few c.add_all.ensures.grows
     (ap length c.deref_mut.ensures.value ∙ c.requires.steps)
 
 pub invariant_of-rows : goal.invariant_of-rows
@@ -45,9 +45,9 @@ invariant_of-rows c =
       queue_len = was.queue_len ∙ sym same;
       departures_len = was.departures_len ∙ sym same;
       arrivals_small = subst (All (λ v. v < 2 ^ 48)) (sym (is ∙ c.fold_into.ensures))
-          (all_small c.args.inputs.now.step_count (length c.deref_mut.result.now) c.per_step-entry.result
-          (length c.feeds_of-feeds.result.now) c.start_turns.new.turns c.add_feeds.new.turns
-          c.per_step-entry.ensures.small c.start_turns.ensures c.feeds_of-feeds.ensures.few c.add_feeds.ensures.grows
+          (all_small c.args.self.now.step_count (length c.deref_mut.result.now) c.per_step-entry.result
+          (length c.feeds_of.result.now) c.start_turns.new.turns c.add_all.new.turns
+          c.per_step-entry.ensures.small c.start_turns.ensures c.feeds_of.ensures.few c.add_all.ensures.grows
           (ap length c.deref_mut.ensures.value ∙ c.requires.steps));
       go_small = was.go_small;
       queue_small = was.queue_small;
@@ -57,22 +57,22 @@ invariant_of-rows c =
 pub returns-clause-kept : goal.returns-clause-kept
 returns-clause-kept c =
     let own : ℕ = c.own_place-own.result in
-    are_put c.args.inputs.now.net.now.frame.step_count own (c.min-end.result - own) c.args.kept.now
-    c.add_feeds.new.slots c.requires.kept c.add_feeds.ensures.slots
+    are_put c.args.self.now.net.now.frame.step_count own (c.min-end.result - own) c.args.kept.now
+    c.add_all.new.slots c.requires.kept c.add_all.ensures.slots
 
 -- all arrivals
 pub returns-clause-arrivals : goal.returns-clause-arrivals
 returns-clause-arrivals c =
-    let n : ℕ = c.args.inputs.now.step_count in
-    let net : Network = c.args.inputs.now.net.now in
-    let link : LinkValue = link_of net c.args.inputs.now.link in
+    let n : ℕ = c.args.self.now.step_count in
+    let net : Network = c.args.self.now.net.now in
+    let link : LinkValue = link_of net c.args.self.now.link in
     let entry = ap (λ (l : LinkValue). perstep net.frame l.entry) (c.at.view_is ∙ c.link-at.ensures.value) in
     let start : folded n c.start_turns.new.turns ≡ uniform net.frame.step_count (perstep net.frame link.entry) =
     c.start_turns.ensures
     ∙ ap (uniform n) (c.per_step-entry.ensures.value ∙ entry)
-    ∙ ap (λ k. uniform k (perstep net.frame link.entry)) c.args.inputs.now.steps in
+    ∙ ap (λ k. uniform k (perstep net.frame link.entry)) c.args.self.now.steps in
     with_items_is c.args.rows.now.arrivals c.fold_into.new.out (c.fold_into.auto.out ∙ c.deref_mut.ensures.len)
     ∙ c.fold_into.ensures
-    ∙ ap (λ m. folded m c.add_feeds.new.turns) (ap length c.deref_mut.ensures.value ∙ c.requires.steps)
-    ∙ c.add_feeds.ensures.value
-    ∙ (λ j. with_feeds net (read_by c.args.inputs.now) (start j) (c.feeds_of-feeds.ensures.value j))
+    ∙ ap (λ m. folded m c.add_all.new.turns) (ap length c.deref_mut.ensures.value ∙ c.requires.steps)
+    ∙ c.add_all.ensures.value
+    ∙ (λ j. with_feeds net (read_by c.args.self.now) (start j) (c.feeds_of.ensures.value j))

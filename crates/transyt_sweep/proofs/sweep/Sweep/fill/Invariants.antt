@@ -1,7 +1,7 @@
 -- The links of a sweep, one after another.
 use Rattle.std.proofs.Common.{◌≡◌, ◌+◌, length}
 use Rattle.transyt_sweep.specs.Front.{AreFilled}
-use Rattle.transyt_sweep.proofs.whole.fill_sweep.Given as goal
+use Rattle.transyt_sweep.proofs.sweep.Sweep.fill.Given as goal
 
 -- those so far are worked out, in a step each
 abbrev pub invariant-loop-link : goal.invariant-loop-link

@@ -1,0 +1,81 @@
+-- A group of feeds more, and those that are left.
+use Rattle.std.proofs.Common.{◌≡◌, ℕ, ◌+◌, ◌-◌, ◌*◌, ◌^◌, ◌≤◌, List, length, take, drop, arith, rules, ap}
+use Rattle.std.proofs.lemmas.List.{length-take}
+use Rattle.transyt_profile.specs.Profile.{folded}
+use Rattle.transyt_parts.specs.declared.link.Feed.{Feed}
+use Rattle.transyt_sweep.specs.Inflow.{read_by}
+use Rattle.transyt_sweep.proofs.InflowLaws.{all_left, feeds_next, feeds_rest, room_next, small_next}
+use Rattle.transyt_sweep.proofs.SlotLaws.{are_put}
+use Rattle.transyt_sweep.proofs.feeds.Feeds.add_all.Goals as goal
+
+-- a group of small feeds
+pub invariant_of-next-clause-small : goal.invariant_of-next-clause-small
+invariant_of-next-clause-small c =
+    small_next c.groups.done (c.groups.done + c.group-count.result - c.groups.done) c.args.self.now.list.now
+    c.args.self.now.small
+
+-- a group has room
+pub add_together-requires-clause-turns : goal.add_together-requires-clause-turns
+add_together-requires-clause-turns c =
+    let p : ℕ = c.groups.done in
+    room_next c.args.self.now.inputs.now.step_count p (p + c.group-count.result - p) c.args.self.now.list.now c.groups.turns
+    (omega (arith, c.group-count.ensures.within, c.groups.invariant.within)) c.args.self.now.few c.groups.invariant.turns
+    (c.groups.invariant.grows ((16 - length c.args.self.now.list.now) * 2 ^ 44) c.requires.turns.small)
+
+-- a group more
+pub groups-preserved : goal.groups-preserved
+groups-preserved c =
+    let n : ℕ = c.args.self.now.inputs.now.step_count in
+    let p : ℕ = c.groups.done in
+    let k : ℕ = c.group-count.result in
+    let next : List Feed = take (p + k - p) (drop p c.args.self.now.list.now) in
+    let count : p + k - p ≡ k = omega arith in
+    let is_next : next ≡ take k (drop p c.args.self.now.list.now) = ap (λ m. take m (drop p c.args.self.now.list.now)) count in
+    let few : length next ≤ k = omega (arith, length-take (p + k - p) (drop p c.args.self.now.list.now)) in
+    record {
+      within = omega (arith, c.group-count.ensures.within, c.groups-test.true);
+      room = search rules;
+      turns = search rules;
+      slots = are_put c.args.self.now.inputs.now.net.now.frame.step_count p (p + k - p) c.groups.slots c.add_together.new.slots
+          c.groups.invariant.slots c.add_together.ensures.slots;
+      value = feeds_next c.args.self.now.inputs.now.net.now (read_by c.args.self.now.inputs.now) (folded n c.args.turns.now)
+          c.args.self.now.list.now next p k (folded n c.groups.turns) (folded n c.add_together.new.turns) is_next
+          c.groups.invariant.value c.add_together.ensures.value;
+      grows = λ limit within j d h. omega (
+        arith,
+        few,
+        c.add_together.ensures.grows (limit + p * 2 ^ 44) (c.groups.invariant.grows limit within) j d h,
+      );
+    }
+
+-- those that are left are small, few, and have room
+pub invariant_of-rest-clause-small : goal.invariant_of-rest-clause-small
+invariant_of-rest-clause-small c =
+    small_next c.groups.done (length c.args.self.now.list.now - c.groups.done) c.args.self.now.list.now c.args.self.now.small
+
+pub add_each-requires-clause-turns : goal.add_each-requires-clause-turns
+add_each-requires-clause-turns c =
+    let p : ℕ = c.groups.done in
+    room_next c.args.self.now.inputs.now.step_count p (length c.args.self.now.list.now - p) c.args.self.now.list.now c.groups.turns
+    (omega (arith, c.groups.invariant.within)) c.args.self.now.few c.groups.invariant.turns
+    (c.groups.invariant.grows ((16 - length c.args.self.now.list.now) * 2 ^ 44) c.requires.turns.small)
+
+-- the arrivals of all
+pub returns-clause-value : goal.returns-clause-value
+returns-clause-value c =
+    let n : ℕ = c.args.self.now.inputs.now.step_count in
+    let p : ℕ = c.groups.done in
+    feeds_rest c.args.self.now.inputs.now.net.now (read_by c.args.self.now.inputs.now) (folded n c.args.turns.now) c.args.self.now.list.now
+    (take (length c.args.self.now.list.now - p) (drop p c.args.self.now.list.now)) p (folded n c.groups.turns)
+    (folded n c.add_each.new.turns) (all_left p c.args.self.now.list.now) c.groups.invariant.value c.add_each.ensures.value
+
+pub returns-clause-grows : goal.returns-clause-grows
+returns-clause-grows c = λ limit within j d h.
+    let all : ℕ = length c.args.self.now.list.now in
+    let p : ℕ = c.groups.done in
+    omega (
+      arith,
+      length-take (all - p) (drop p c.args.self.now.list.now),
+      c.groups.invariant.within,
+      c.add_each.ensures.grows (limit + p * 2 ^ 44) (c.groups.invariant.grows limit within) j d h,
+    )
