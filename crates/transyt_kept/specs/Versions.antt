@@ -52,7 +52,8 @@ pub record AreRowVersions (count n : ℕ) (slots : VersionsValue Bool) (values :
 unfoldable pub cut_rows : ℕ → ℕ → List ℕ → List (List ℕ)
 cut_rows count n values = map (λ p. slice_range values (p * n) (p * n + n)) (range_with_len 0 count)
 
--- the invariant of rows with a mark: as many links, and the kept indexes are the sums of the links' indexes, now and at the mark
+-- the invariant of rows with a mark: they have as many links now as at the mark, and the kept indexes are the sums of
+-- the links' indexes
 pub record AreKept (link_count : ℕ) (now mark : RowsValue) (index mark_index : ℕ) : Type 0 where
   pub rows : AreRows now
   pub links : length now.figures ≡ link_count
