@@ -26,7 +26,7 @@ use Rattle.transyt_equisat.proofs.PlanFits.{plan_parts}
 use Rattle.transyt_equisat.proofs.TimedPlans.{AreTimed, timed_allowed}
 use Rattle.transyt_variants.specs.Cycles.{steps_of, has_short_lags, has_short_sizes, may_have, least_length, first_barred}
 use Rattle.transyt_variants.specs.Cycles.{scaled, scaled_stage, filled_greens, laid, bare_stages, bare_plan, bare_net}
-use Rattle.transyt_variants.specs.Needs.{AreShort, HasBarePlan, CanHave}
+use Rattle.transyt_variants.specs.Needs.{HasBarePlan, CanHave}
 use Rattle.transyt_variants.proofs.ValidLaws.{valid_signals}
 use Rattle.transyt_variants.proofs.StartLaws.{map_places, all_places}
 
@@ -221,18 +221,13 @@ bare_valid net cycle valid can =
       plan = plan_again before after net.plan valid.sound.plan may.3;
     })
 
--- no least green is above 120
-pub least_small : (ss : List Stage) → AreShort ss → All (λ e. e ≤ 120) (map (λ (s : Stage). s.least) ss)
-least_small ss short =
-    All-map (λ e. e ≤ 120) (λ (s : Stage). s.least) ss
-    (All-weaker (λ s. (s.intergreen ≤ 120) × (s.least ≤ 120)) (λ s. s.least ≤ 120) (λ s is. is.1) ss short.each)
-
--- the stages of a cycle of at most 120 steps are short
-pub are_short : (steps : ℕ) (ss : List Stage) → steps ≤ 120 → length ss ≤ 8 → All (IsStage steps) ss → AreShort ss
-are_short steps ss most few each = record {
-  few = few;
-  each = λ k d inside. (let is = each k d inside in (omega (arith, is.intergreen), omega (arith, is.least.1)));
-}
+-- the least greens of the stages of a cycle of at most 120 steps are short
+pub leasts_short : (steps : ℕ) (ss : List Stage) (es : List ℕ) → steps ≤ 120 → All (IsStage steps) ss
+    → es ≡ map (λ (s : Stage). s.least) ss → All (λ e. e ≤ 120) es
+leasts_short steps ss es most each are =
+    rw are
+    (All-map (λ e. e ≤ 120) (λ (s : Stage). s.least) ss
+    (All-weaker (IsStage steps) (λ s. s.least ≤ 120) (λ s is. omega (arith, is.least.1)) ss each))
 
 -- no intergreen is above 120
 pub scaled_gaps : (before after : ℕ) (ss : List Stage) → before ≤ 120 → All (IsStage before) ss

@@ -1,5 +1,5 @@
 -- A start is a valid network, and differs from the first network in its offsets alone.
-use Rattle.std.proofs.Common.{◌≡◌, ℕ, zero, suc, ◌+◌, ◌-◌, ◌*◌, ◌/◌, ◌<◌, List, [], ◌∷◌, ◌++◌, map, take, length, get_or, refl, sym, ap, ◌∙◌, arith, subst, None, Result, Ok, Err, IfOk}
+use Rattle.std.proofs.Common.{◌≡◌, ℕ, zero, suc, add-one, ◌+◌, ◌*◌, ◌/◌, ◌<◌, List, [], ◌∷◌, ◌++◌, map, take, length, get_or, refl, sym, ap, ◌∙◌, arith, subst, None, Result, Ok, Err, IfOk}
 use Rattle.std.specs.List.{range_with_len}
 use Rattle.std.proofs.Math.Nat.{mod-lt}
 use Rattle.std.proofs.lemmas.List.{ext_get_or, length-map, get_or-map, get_or_default, map_more}
@@ -90,14 +90,11 @@ drawn_valid net seed first valid =
     (all_places (λ (n : NodeValue). plan_fault steps n.stages ≡ None) f (length net.nodes)
     (λ k inside. valid.planned k no_node inside))
 
--- a start but the first
-pub start_later : (net : Network) (seed place : ℕ) → 0 < place
-    → start_at net seed place ≡ record net { nodes = drawn_nodes net seed ((place - 1) * length net.nodes) }
+-- the start after the one at a place
+pub start_after : (net : Network) (seed place : ℕ)
+    → start_at net seed (place + 1) ≡ record net { nodes = drawn_nodes net seed (place * length net.nodes) }
 unfolding start_at
-start_later net seed zero some = absurd (omega arith)
-start_later net seed (suc i) some =
-    let before : i ≡ suc i - 1 = omega arith in
-    ap (λ j. record net { nodes = drawn_nodes net seed (j * length net.nodes) }) before
+start_after net seed place = rw (add-one place) refl
 
 -- a start keeps all but the offsets
 pub start_kept : (net : Network) (seed place : ℕ) → IsValid net → KeepsAllButOffsets net (start_at net seed place)

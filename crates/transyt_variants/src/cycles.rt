@@ -2,7 +2,6 @@
 ghost use Rattle.std.specs.Prelude.{◌≡◌, ◌<◌, ◌≤◌, length, All, IfOk, OnOk, [], nat_lt};
 ghost use Rattle.std.specs.List.{list_all};
 ghost use Rattle.std.specs.Option.{option_map};
-ghost use Rattle.transyt_parts.specs.Valid.{IsNode};
 ghost use Rattle.transyt_equisat.specs.Balance.{timed};
 ghost use Rattle.transyt_variants.specs.Cycles.{has_short_lags, has_short_sizes, may_have, first_barred};
 ghost use Rattle.transyt_variants.specs.Cycles.{bare_net, balanced_node, balanced, at_cycle};
@@ -71,12 +70,11 @@ fn may_have(steps: u32, net: &Net) -> bool
         && has_short_sizes(steps, net.plan())
 }
 
-/// The card number of the first node whose stages take more than so many steps.
-fn first_barred(steps: u32, nodes: &[Node]) -> Option<u32>
-    requires { All (IsNode 120) nodes.now }
-    ensures { result ≡ first_barred steps nodes.now }
+/// The card number of the first node of a network whose stages take more than so many steps.
+fn first_barred(steps: u32, net: &Net) -> Option<u32>
+    ensures { result ≡ first_barred steps net.now.nodes }
 {
-    for node in nodes {
+    for node in net.nodes() {
         if steps < least_length(&node.stages) {
             return Some(node.number);
         }
@@ -171,7 +169,7 @@ fn cycle_made(alloc: Global, net: &Net, time: CycleTime) -> Result<AtCycle, Allo
     if !may_have(time.steps_of(net), net) {
         return Ok(AtCycle::NoPlan);
     }
-    match first_barred(time.steps_of(net), net.nodes()) {
+    match first_barred(time.steps_of(net), net) {
         Some(node) => Ok(AtCycle::Barred { node }),
         None => Ok(AtCycle::Plan(plan_at(alloc, net, time)?)),
     }

@@ -67,14 +67,13 @@ fn drawn(alloc: Global, net: &Net, draws: &mut Draws) -> Result<Net, AllocError>
     made
 }
 
-/// The start at a place after the first.
-#[tactic(auto, using(crate::proofs::StartLaws::start_later))]
-fn start_later(alloc: Global, net: &Net, start: Start) -> Result<Net, AllocError>
-    requires { 0 < start.place }
-    ensures { IfOk result (λ made. made ≡ start_at net.now start.seed start.place) }
+/// The start after the one at a place.
+#[tactic(auto, using(crate::proofs::StartLaws::start_after))]
+fn start_after(alloc: Global, net: &Net, start: Start) -> Result<Net, AllocError>
+    ensures { IfOk result (λ made. made ≡ start_at net.now start.seed (start.place + 1)) }
 {
     let mut draws = Draws::new(start.seed);
-    skip(&mut draws, (start.place - 1) * net.nodes().len());
+    skip(&mut draws, start.place * net.nodes().len());
     drawn(alloc, net, &mut draws)
 }
 
@@ -86,7 +85,11 @@ fn start_made(alloc: Global, net: &Net, start: Start) -> Result<Net, AllocError>
     if start.place == 0 {
         return net.copy(alloc);
     }
-    start_later(alloc, net, start)
+    let before = Start {
+        seed: start.seed,
+        place: start.place - 1,
+    };
+    start_after(alloc, net, before)
 }
 
 /// The start of a network at a place of a list of starts: the first is an equal network, each other has offsets that

@@ -31,7 +31,7 @@ plan_at-requires c =
       high = c.args.time.high;
       whole = sym c.if-not-is_whole.ensures;
       may = sym (c.if-not-may_have.ensures ∙ ap (λ n. may_have n net) c.steps_of.ensures);
-      none = sym (c.in-None.ensures ∙ (λ j. first_barred (c.steps_of-2.ensures j) (c.nodes.ensures.value j)));
+      none = sym (c.in-None.ensures ∙ ap (λ n. first_barred n net.nodes) c.steps_of-2.ensures);
     }
 
 -- a node that bars it
@@ -42,7 +42,7 @@ returns-in-Some c =
     let may : may_have (steps_of net c.args.time.seconds) net ≡ true =
     sym (c.if-not-may_have.ensures ∙ ap (λ n. may_have n net) c.steps_of.ensures) in
     let first : first_barred (steps_of net c.args.time.seconds) net.nodes ≡ Some c.in-Some.node =
-    sym (c.in-Some.ensures ∙ (λ j. first_barred (c.steps_of-2.ensures j) (c.nodes.ensures.value j))) in
+    sym (c.in-Some.ensures ∙ ap (λ n. first_barred n net.nodes) c.steps_of-2.ensures) in
     had net c.args.time.seconds (Some c.in-Some.node) whole may first
 
 -- none: there is a plan
@@ -53,5 +53,5 @@ returns-in_ok-plan_at-in-None c =
     let may : may_have (steps_of net c.args.time.seconds) net ≡ true =
     sym (c.if-not-may_have.ensures ∙ ap (λ n. may_have n net) c.steps_of.ensures) in
     let first : first_barred (steps_of net c.args.time.seconds) net.nodes ≡ None =
-    sym (c.in-None.ensures ∙ (λ j. first_barred (c.steps_of-2.ensures j) (c.nodes.ensures.value j))) in
+    sym (c.in-None.ensures ∙ ap (λ n. first_barred n net.nodes) c.steps_of-2.ensures) in
     ap (λ (n : Network). Plan n) c.in_ok-plan_at-in-None.ensures ∙ had net c.args.time.seconds None whole may first
