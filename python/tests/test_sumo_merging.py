@@ -8,8 +8,9 @@ import unittest
 import support  # noqa: F401
 from transyt.deck import Deck, read_deck
 from transyt.sumo.drive import Measures, Run, drive, put_signals, write_signals
+from transyt.sumo.giving import as_drawn
 from transyt.sumo.merging import bits_of, merging_with
-from transyt.sumo.netfile import Connection
+from transyt.sumo.netfile import Connection, read_root
 from transyt.sumo.network import Net, build
 from transyt.sumo.plans import write_all_cars
 
@@ -78,6 +79,16 @@ class Driven(unittest.TestCase):
                              for one in ("link11", "link12")))
         kinds = [self.net.file.junctions[name].kind for name in ("node1", "node2")]
         self.assertEqual(kinds, ["traffic_light", "traffic_light_unregulated"])
+
+    def test_nobody_waits_within_the_junction(self) -> None:
+        """On ways that cross; but junction 4 of the arterial, where a link gives way, is netconvert's."""
+        build(as_drawn(read_deck(support.example("arterial.deck")), lambda _: None), self.folder)
+        root = read_root(os.path.join(self.folder, "town.net.xml"))
+        inside = {one.get("id", ""): (one.get("incLanes", "").count(" "), one.get("intLanes"))
+                  for one in root.iterfind("junction") if one.get("type") == "internal"}
+        waiting = {name for name, lanes in inside.items() if lanes != (0, "")}
+        self.assertTrue(waiting and set(inside) - waiting)
+        self.assertEqual({name.split("_")[0] for name in waiting}, {":node4"})
 
     def test_their_cars_hardly_collide(self) -> None:
         """As netconvert leaves the junction they do, in almost every green."""

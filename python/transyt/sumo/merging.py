@@ -1,6 +1,7 @@
 """Ways that merge: at a junction without right of way, cars of two links that lead into one lane see each other.
 
 netconvert makes no requests at such a junction, and then each car sees the others when it is in that lane: too late.
+With requests SUMO also has cars wait within the junction for those whose way they cross; that is taken out.
 """
 
 import xml.etree.ElementTree as ElementTree
@@ -16,14 +17,20 @@ def put_merging(path: str) -> None:
     """Puts into a network's file that ways into one lane meet; nobody waits for anybody, and ways that cross stay."""
     root = read_root(path)
     net = net_of(root)
+    made = set()
     for element in root.iterfind("junction"):
         ways = net.ordered(net.junctions[element.attrib["id"]])
         merging = [merging_with(way, ways) for way in ways]
         if element.get("type") == UNREGULATED and any(merging):
             element.set("type", REGULATED)
+            made.add(element.attrib["id"])
             for place, foes in enumerate(merging):
                 ElementTree.SubElement(element, "request", index=str(place), response="0" * len(ways),
                                        foes=bits_of(foes, len(ways)), cont="0")
+    for element in root.iterfind("junction"):
+        if element.get("type") == "internal" and element.attrib["id"].rsplit("_", 2)[0][1:] in made:
+            element.set("incLanes", element.get("incLanes", "").split(" ")[0])
+            element.set("intLanes", "")
     write_root(root, path)
 
 
