@@ -1,6 +1,7 @@
 -- The first of a crew have tried moves, and the others are as they were.
 use Rattle.std.proofs.Common.{◌≡◌, ◌≢◌, ℕ, zero, suc, ◌+◌, ◌-◌, ◌<◌, ◌≤◌, List, ◌++◌, length, take, drop, Bool, true, false, nat_lt, Option, Some, None}
-use Rattle.std.proofs.Common.{length-append, refl, ap, sym, ◌∙◌, subst, arith, max}
+use Rattle.std.proofs.Math.Seq.{take-append_seam}
+use Rattle.std.proofs.Common.{slice_index_or, length-append, refl, ap, sym, ◌∙◌, subst, arith, max}
 use Rattle.std.proofs.lemmas.List.{get_or-take, get_or_append_left, get_or-append_right, get_or-drop, length-take, length-drop}
 use Rattle.std.proofs.lemmas.List.{take-map, take-append-drop}
 use Rattle.std.proofs.lemmas.Bool.Decides.{nat_tests}
@@ -14,11 +15,26 @@ use Rattle.transyt_desks.specs.declared.stretch.Stretch.{Stretch}
 use Rattle.transyt_desks.specs.Desks.{no_session, session_at, desks_of, sessions_of, AreAlike, AreDesks}
 use Rattle.transyt_desks.specs.Batches.{CanAllFollow, CanFollow, HasTriedBatch}
 use Rattle.transyt_desks.specs.Stretches.{net_made}
-use Rattle.transyt_desks.proofs.DeskLaws.{crew_can, crew_shape, crew_two, desk_at, desks_count}
+use Rattle.transyt_desks.proofs.DeskLaws.{crew_can, crew_shape, crew_two, desk_at, desks_count, session_read, sessions_count}
 
 -- the sessions of the first of a crew are the first sessions
 pub sessions_first : (n : ℕ) (crew : List Desk) → sessions_of (take n crew) ≡ take n (sessions_of crew)
 sessions_first n crew = sym (take-map (λ (d : Desk). d.session) n crew)
+
+-- where the first of desks are all of a list
+pub first_sessions : (n : ℕ) (front back : List Desk) → length front ≡ n → take n (sessions_of (front ++ back)) ≡ sessions_of front
+first_sessions n front back count =
+    ap (λ m. take m (sessions_of (front ++ back))) (sym count) ∙ sym (sessions_first (length front) (front ++ back))
+    ∙ ap sessions_of (take-append_seam front back)
+
+-- each of a crew can come to the network of desk 0, also where it isn't known to follow
+pub each_can : (zero_desk : SessionValue) (crew : List Desk) (in_step : ℕ) → AreDesks zero_desk (sessions_of crew) in_step
+    → AreAlike (desks_of zero_desk (sessions_of crew)) → (k : ℕ) (d : Desk) → k < length crew
+    → CanFollow zero_desk.net false (slice_index_or crew k d).session
+each_can zero_desk crew in_step are alike k d less =
+    subst (CanFollow zero_desk.net false) (sym (session_read crew k d less))
+    (crew_can zero_desk (sessions_of crew) in_step are alike (length crew) false (λ never. absurd (cc)) k less
+    (omega (arith, less, sessions_count crew)))
 
 -- the first of a crew can come to the network of desk 0
 pub first_can : (zero_desk : SessionValue) (crew : List SessionValue) (in_step n : ℕ) (known : Bool)

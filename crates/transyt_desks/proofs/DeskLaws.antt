@@ -176,6 +176,17 @@ module _ (zero_desk : SessionValue) (olds news : List SessionValue) (in_step : �
           ap (λ (s : SessionValue). s.net) (desk_at zero_desk news (suc k) (omega arith))
           ∙ stand.nets (suc k) (omega (arith, less, desks_count zero_desk news))
 
+  -- and is one of desks, that is known to follow
+  pub standing_are : (known : ℕ) → AreDesks zero_desk news known
+  standing_are known = record {
+    few = omega (arith, are.few, count);
+    several = λ one. are.several (sym count ∙ one);
+    closed = stand.closed;
+    shapes = λ k less. ap shape_word (stand.nets k less)
+        ∙ sym (ap shape_word (stand.nets 1 (omega (arith, count, crew_two zero_desk olds in_step are k (omega (arith, less, count))))));
+    known = λ k _ less. stand.nets k less;
+  }
+
 -- a crew that is known to follow stands for the network of desk 0
 pub known_aligned : (zero_desk : SessionValue) (crew : List SessionValue) (in_step : ℕ) → AreDesks zero_desk crew in_step
     → length crew ≤ in_step → AreAligned (desks_of zero_desk crew)

@@ -47,7 +47,7 @@ pub record IsTurnOf (batch : Batch) (number : ℕ) : Type 0 where
   pub sum : number % batch.desks + number / batch.desks * batch.desks ≡ number
 
 pub turn_of : (batch : Batch) (number : ℕ) → IsTurnOf batch number
-turn_of batch number = record { desk = mod_below number batch.desks batch.some; sum = omega (arith, batch.some) }
+turn_of batch number = record { desk = mod_below number batch.desks (omega (arith, batch.several)); sum = omega (arith, batch.several) }
 
 -- what the desk found whose turn the move with a number is
 abbrev pub results_of : Batch → List Desk → ℕ → Desk → TryResults
@@ -110,7 +110,7 @@ module _ (net : Network) (batch : Batch) (desks : List Desk) (number : ℕ) (d :
           let fewer : (results_of batch desks number d).passed + 1 ≤ number / batch.desks = grind (arith, nat_tests, less) in
           let times = mul-le-mul_right batch.desks fewer in
           let one : ((results_of batch desks number d).passed + 1) * batch.desks ≡ (results_of batch desks number d).passed * batch.desks + batch.desks = omega arith in
-          let earlier = before its_number (omega (arith, times, one, at.sum, batch.some)) in
+          let earlier = before its_number (omega (arith, times, one, at.sum, batch.several)) in
           absurd (none-some made (sym earlier ∙ here))
       by false more =
           let same : number / batch.desks ≡ (results_of batch desks number d).passed = grind (arith, nat_tests, more) in

@@ -4,7 +4,7 @@ ghost use Rattle.std.specs.Prelude.{◌≡◌, ◌*◌, ◌<◌, ◌≤◌};
 
 /// The moves that the desks of a round try: from a place on, round the list. They are numbered from 0.
 ///
-/// The list has that place if any is tried, and at most 64 moves come to each of one to eight desks.
+/// The list has that place if any is tried, and at most 64 moves come to each of two to eight desks.
 #[derive(Clone, Copy)]
 pub(crate) struct Batch {
     /// The place of the first.
@@ -20,7 +20,7 @@ pub(crate) struct Batch {
     /// Whether the desks are known to stand for the network whose moves these are. Otherwise they come to it first.
     pub(crate) known: bool,
     ghost place_within: { 0 < room → place < count },
-    ghost some: { 0 < desks },
+    ghost several: { 1 < desks },
     ghost many: { desks ≤ 8 },
     ghost room_within: { room ≤ 64 * desks },
 }

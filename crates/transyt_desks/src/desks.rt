@@ -15,19 +15,21 @@ ghost use Rattle.transyt_desks.specs.Rounds.{places_of, CanRound, MakesRound, Ro
 use crate::batch::Batch;
 use crate::desk::{Desk, all_stand};
 use crate::desk_count::DeskCount;
-use crate::gate::Gate;
+use crate::gate::{Gate, OpenGate};
+use crate::job::Job;
 use crate::policy::{goes_alone, split};
 use crate::rounds::{batch_of, end_of};
 use crate::runner::Runner;
 use crate::split::Split;
 use crate::stretch::Stretch;
-use crate::trying::{stand_all, try_moves_alone, try_moves_of_crew, try_stretch_at_first};
+use crate::trying::{hand_on, try_moves_alone, try_moves_forked, try_stretch};
 use crate::turns::{Round, note_passed};
 use std::alloc::{AllocError, Global};
 use std::marker::Model;
 use std::sync::ledger::Ledger;
 use std::thread::Threads;
 use transyt_climb::{Climber, Turn};
+use transyt_moves::move_count;
 use transyt_session::{Session, Tried};
 use transyt_steps::Steps;
 
@@ -121,7 +123,20 @@ impl Desks {
         if count <= self.in_step {
             return;
         }
-        stand_all(rt, self.crew.as_mut_slice(), &self.zero);
+        let batch = Batch {
+            place: 0,
+            count: move_count(self.zero.net()),
+            room: 0,
+            desks: count as u32,
+            bound: 0,
+            known: false,
+        };
+        let runner = Runner {
+            rt,
+            gate: &OpenGate,
+        };
+        let zero = &self.zero;
+        try_moves_forked(&runner, self.crew.as_mut_slice(), Job { zero, batch });
         self.in_step = count;
     }
 
@@ -180,8 +195,18 @@ impl Desks {
             gate.leave(0);
             return;
         }
-        let runner = Runner { rt, gate };
-        try_moves_of_crew(&runner, self.crew.as_mut_slice(), &self.zero, from, tries);
+        let batch = Batch {
+            place: from,
+            count: move_count(self.zero.net()),
+            room: tries.len() as u32,
+            desks: self.crew.len() as u32,
+            bound: 0,
+            known: false,
+        };
+        let zero = &self.zero;
+        let job = Job { zero, batch };
+        try_moves_forked(&Runner { rt, gate }, self.crew.as_mut_slice(), job);
+        hand_on(self.crew.as_slice(), job, tries);
         self.in_step = self.crew.len();
     }
 
@@ -192,7 +217,6 @@ impl Desks {
         runner: &Runner<'_, R, G>,
         batch: Batch,
     ) -> Stretch
-        requires several { 1 < length self.old }
         requires within { batch.desks ≤ length self.old }
         requires alike { AreAlike self.old }
         requires closed { (desk_zero self.old).before ≡ None }
@@ -207,7 +231,7 @@ impl Desks {
     {
         let count = batch.desks as usize;
         let batch = batch.with_known(count <= self.in_step);
-        let tried = try_stretch_at_first(runner, &mut self.zero, self.crew.as_mut_slice(), batch);
+        let tried = try_stretch(runner, &mut self.zero, self.crew.as_mut_slice(), batch);
         self.in_step = known_after(tried, count, self.in_step);
         tried
     }
@@ -371,7 +395,6 @@ fn crew_size(workers: u32) -> u32
 
 /// So many twins of a session, each at a desk.
 fn open_crew(alloc: Global, session: &Session, count: u32) -> Result<Vec<Desk>, AllocError>
-    requires few { count ≤ 8 }
     requires closed { session.now.before ≡ None }
     ensures { IfOk result
         (λ crew. sessions_of crew.items ≡ replicate count (opened session.now.net)) }

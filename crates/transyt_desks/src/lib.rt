@@ -19,9 +19,9 @@
 //!   and one session more before them, which no clause sees. With one desk there is no crew. `in_step` notes how many
 //!   of the first of the crew are known to stand for the network of desk 0; networks are compared only where that
 //!   isn't known.
-//! - In one fork each of the crew that tries comes to the network of desk 0 (`follow`) and then tries the moves that
-//!   come to it in turn (`find`). It makes the first that brings the index below desk 0's, and tries no more. The
-//!   caller makes all threads itself before it tries as the first of the crew. What they found is read in the list's
+//! - In one fork each of the crew that tries comes to the network of desk 0 (`follow`) and then tries the moves of a
+//!   `Job` that come to it in turn, its `Attempt`. It makes the first that brings the index below desk 0's, and tries no
+//!   more. The caller makes all threads itself before it tries as the first of the crew. What they found is read in the list's
 //!   order, up to the first move that was made (`first_made`), and desk 0 trades networks with the desk that made it
 //!   (`Session::trade`). Then the turns are counted (`together`): those that pass, and the step.
 //! - `proofs/CrewLaws` has what the first of a crew share with all of it, and `proofs/BatchLaws` what those come to
@@ -38,6 +38,7 @@ mod desk_count;
 mod desks;
 mod equal;
 mod gate;
+mod job;
 mod laws;
 mod policy;
 mod results;

@@ -1,12 +1,11 @@
 //! Moves of the list, one after another, up to the first that lowers the index.
 
-ghost use Rattle.std.specs.Prelude.{◌≡◌, ◌+◌, ◌^◌, ◌<◌, ◌≤◌, IfSome, None};
+ghost use Rattle.std.specs.Prelude.{◌≡◌, ◌<◌, ◌≤◌, IfSome, None};
 ghost use Rattle.transyt_moves.specs.Moves.{move, move_count};
 ghost use Rattle.transyt_track.specs.Due.{edit_work};
 ghost use Rattle.transyt_session.specs.Session.{standing_for, tried_below, try_of};
-ghost use Rattle.transyt_desks.specs.Stretches.{made_at, net_made, passing, place_at, work_found};
+ghost use Rattle.transyt_desks.specs.Stretches.{made_at, net_made, work_found};
 
-use crate::batch::Batch;
 use crate::results::{MadeMove, made_by};
 use std::marker::Brand;
 use std::sync::ledger::{Blank, Ledger};
@@ -40,35 +39,13 @@ impl Stretch {
 }
 
 /// The work that a try found.
-fn work_found(found: Tried) -> u64
+pub(crate) fn work_found(found: Tried) -> u64
     ensures { result ≡ work_found found }
 {
     match found {
         Tried::Barred => 0,
         Tried::Index { work, .. } => work,
     }
-}
-
-/// A stretch with one move more, which doesn't lower the index, by what a try of it came to.
-pub(crate) fn pass(stretch: Stretch, found: Tried) -> Stretch
-    requires passed { stretch.passed + 1 < 2 ^ 32 }
-    requires work { stretch.work + work_found found < 2 ^ 64 }
-    ensures { result ≡ passing stretch (work_found found) }
-{
-    Stretch {
-        passed: stretch.passed + 1,
-        work: stretch.work + work_found(found),
-        made: None,
-    }
-}
-
-/// The place of the move with a number.
-pub(crate) fn place_of(batch: Batch, number: u32) -> u32
-    requires { number < batch.room }
-    ensures value { result ≡ place_at batch.place batch.count number }
-    ensures below { result < batch.count }
-{
-    ((u64::from(batch.place) + u64::from(number)) % u64::from(batch.count)) as u32
 }
 
 /// Tries an edit with a bound, with a counter of steps of its own.

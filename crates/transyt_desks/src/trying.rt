@@ -12,10 +12,11 @@ ghost use Rattle.transyt_desks.specs.Batches.{AreStanding, CanAllFollow, CanFoll
 
 use crate::batch::Batch;
 use crate::desk::{Desk, follow};
-use crate::gate::{Gate, OpenGate};
+use crate::gate::Gate;
+use crate::job::{Attempt, Job};
 use crate::results::TryResults;
 use crate::runner::Runner;
-use crate::stretch::{Stretch, pass, place_of, try_at};
+use crate::stretch::{Stretch, try_at, work_found};
 use std::snapshot::Snapshot;
 use std::sync::ledger::Ledger;
 use std::thread::{self, Threads};
@@ -24,22 +25,20 @@ use transyt_net::Net;
 use transyt_session::{Session, Tried};
 use transyt_steps::Steps;
 
-/// Tries the moves of a batch that come to a desk in turn, up to the first that brings the index below the bound, which it
+/// Tries the moves of an attempt one after another, up to the first that brings the index below the bound, which it
 /// makes.
-fn try_moves_on_desk(session: &mut Session, batch: Batch, desk: u32) -> TryResults
-    requires desk { desk < 8 }
-    requires count { batch.count ≡ move_count session.old.net }
+fn try_moves_on_desk(session: &mut Session, attempt: Attempt<'_>) -> TryResults
+    requires net { session.old.net ≡ attempt.job.zero.now.net }
     requires closed { session.old.before ≡ None }
-    ensures results { AreResults session.old.net batch desk result }
+    ensures results { AreResults session.old.net attempt.entry.job.batch attempt.entry.desk result }
     ensures state { session.new ≡ standing_for (net_made result.made session.old.net) session.old }
 {
     let mut results = TryResults::none();
     for turn in 0..64u32 {
-        let number = desk + turn * batch.desks;
-        if number >= batch.room {
+        let Some(place) = attempt.place(turn) else {
             return results;
-        }
-        let (found, made) = try_at(session, place_of(batch, number), batch.bound);
+        };
+        let (found, made) = try_at(session, place, attempt.job.batch.bound);
         results.made = made;
         if made.is_some() {
             return results;
@@ -50,41 +49,31 @@ fn try_moves_on_desk(session: &mut Session, batch: Batch, desk: u32) -> TryResul
     results
 }
 
-/// Lets a desk come to the network of desk 0, and try its moves of a batch between entering and leaving the gate.
-fn try_moves_at_gate<G: Gate>(
-    gate: &G,
-    desk: &mut Desk,
-    number: usize,
-    zero: &Session,
-    batch: Batch,
-)
-    requires number { number < 8 }
-    requires count { batch.count ≡ move_count zero.now.net }
-    requires ready { CanFollow zero.now.net batch.known desk.old.session }
-    ensures { HasTried zero.now.net batch number desk.old desk.new }
+/// Lets a desk come to the network of desk 0, and make its attempt between entering and leaving the gate.
+fn try_moves_at_gate<G: Gate>(gate: &G, desk: &mut Desk, attempt: Attempt<'_>)
+    requires ready { CanFollow attempt.job.zero.now.net attempt.job.batch.known desk.old.session }
+    ensures { HasTried attempt.entry.job.zero.now.net attempt.entry.job.batch attempt.entry.desk desk.old desk.new }
 {
-    follow(&mut desk.session, zero, batch.known);
-    gate.enter(number as u32);
-    desk.results = try_moves_on_desk(&mut desk.session, batch, number as u32);
-    gate.leave(number as u32);
+    follow(&mut desk.session, attempt.job.zero, attempt.job.batch.known);
+    gate.enter(attempt.desk);
+    desk.results = try_moves_on_desk(&mut desk.session, attempt);
+    gate.leave(attempt.desk);
 }
 
-/// Lets all desks of a crew come to the network of desk 0 and try the moves of a batch, which come to them in turn, at
+/// Lets all desks of a crew come to the network of desk 0 and try the moves of a job, which come to them in turn, at
 /// once: the first in this thread, each other in a new one.
 ///
 /// This thread makes all the others before it tries a move itself: a thread that is made by one which then works on
 /// mostly gets the same processor, and waits there until the other is done.
 #[cycle(forks)]
-fn try_moves_forked<R: Threads + Sync, G: Gate>(
+pub(crate) fn try_moves_forked<R: Threads + Sync, G: Gate>(
     runner: &Runner<'_, R, G>,
     desks: &mut [Desk],
-    zero: &Session,
-    batch: Batch,
+    job: Job<'_>,
 )
     requires few { length desks.old ≤ 8 }
-    requires count { batch.count ≡ move_count zero.now.net }
-    requires ready { All (λ d. CanFollow zero.now.net batch.known d.session) desks.old }
-    ensures { HaveTried zero.now.net batch desks.old desks.new }
+    requires ready { All (λ d. CanFollow job.zero.now.net job.batch.known d.session) desks.old }
+    ensures { HaveTried job.entry.zero.now.net job.entry.batch desks.old desks.new }
 {
     if desks.is_empty() {
         return;
@@ -92,9 +81,9 @@ fn try_moves_forked<R: Threads + Sync, G: Gate>(
     let number = desks.len() - 1;
     let (front, last) = desks.split_at_mut(number);
     if front.is_empty() {
-        try_moves_at_gate(runner.gate, &mut last[0], 0, zero, batch);
+        try_moves_at_gate(runner.gate, &mut last[0], Attempt { job, desk: 0 });
     } else {
-        try_moves_on_both(runner, front, &mut last[0], zero, batch);
+        try_moves_on_both(runner, front, &mut last[0], job);
     }
 }
 
@@ -104,52 +93,30 @@ fn try_moves_on_both<R: Threads + Sync, G: Gate>(
     runner: &Runner<'_, R, G>,
     front: &mut [Desk],
     last: &mut Desk,
-    zero: &Session,
-    batch: Batch,
+    job: Job<'_>,
 )
     requires few { length front.old < 8 }
-    requires count { batch.count ≡ move_count zero.now.net }
-    requires ready { All (λ d. CanFollow zero.now.net batch.known d.session) front.old }
-    requires last_ready { CanFollow zero.now.net batch.known last.old.session }
-    ensures front { HaveTried zero.now.net batch front.old front.new }
-    ensures last { HasTried zero.now.net batch (length front.old) last.old last.new }
+    requires ready { All (λ d. CanFollow job.zero.now.net job.batch.known d.session) front.old }
+    requires last_ready { CanFollow job.zero.now.net job.batch.known last.old.session }
+    ensures front { HaveTried job.entry.zero.now.net job.entry.batch front.old front.new }
+    ensures last { HasTried job.entry.zero.now.net job.entry.batch (length front.old) last.old last.new }
 {
-    let number = front.len();
+    let attempt = Attempt {
+        job,
+        desk: front.len() as u32,
+    };
     let mut there = ||
-        requires { IsSync G.row × (number < 8) × (batch.count ≡ move_count zero.now.net)
-            × CanFollow zero.now.net batch.known last.now.session }
-        ensures { HasTried zero.entry.now.net batch number last.entry.now last.exit.now }
-    { try_moves_at_gate(runner.gate, last, number, zero, batch) };
+        requires { IsSync G.row
+            × CanFollow attempt.job.zero.now.net attempt.job.batch.known last.now.session }
+        ensures { HasTried attempt.entry.job.zero.now.net attempt.entry.job.batch attempt.entry.desk
+            last.entry.now last.exit.now }
+    { try_moves_at_gate(runner.gate, last, attempt) };
     let mut here = ||
         requires { IsSync R.row × IsSync G.row × (length front.now ≤ 8)
-            × (batch.count ≡ move_count zero.now.net)
-            × All (λ d. CanFollow zero.now.net batch.known d.session) front.now }
-        ensures { HaveTried zero.entry.now.net batch front.entry.now front.exit.now }
-    { try_moves_forked(runner, front, zero, batch) };
+            × All (λ d. CanFollow job.zero.now.net job.batch.known d.session) front.now }
+        ensures { HaveTried job.entry.zero.now.net job.entry.batch front.entry.now front.exit.now }
+    { try_moves_forked(runner, front, job) };
     thread::join_mut(runner.rt, &mut there, &mut here);
-}
-
-/// Lets all desks of a crew stand for the network of desk 0, all at once.
-pub(crate) fn stand_all<R: Threads + Sync>(rt: &R, desks: &mut [Desk], zero: &Session)
-    requires some { 0 < length desks.old }
-    requires few { length desks.old ≤ 8 }
-    requires ready { CanAllFollow zero.now.net false (sessions_of desks.old) }
-    ensures workers { length desks.new ≡ length desks.old }
-    ensures stand { AreStanding zero.now.net (sessions_of desks.new) }
-{
-    let batch = Batch {
-        place: 0,
-        count: move_count(zero.net()),
-        room: 0,
-        desks: desks.len() as u32,
-        bound: 0,
-        known: false,
-    };
-    let runner = Runner {
-        rt,
-        gate: &OpenGate,
-    };
-    try_moves_forked(&runner, desks, zero, batch);
 }
 
 /// The moves of a batch as a stretch, up to the first in the list's order that lowers the index, which its desk has made.
@@ -169,56 +136,27 @@ fn first_made(desks: &[Desk], batch: Batch, net: &Snapshot<Net>) -> Stretch
                 ..stretch
             };
         }
-        stretch = pass(stretch, results.tries[turn as usize]);
+        stretch.passed += 1;
+        stretch.work += work_found(results.tries[turn as usize]);
     }
     stretch
 }
 
 /// Hands on the results in the list's order.
-fn hand_on(desks: &[Desk], batch: Batch, net: &Snapshot<Net>, tries: &mut [Tried])
-    requires bound { batch.bound ≡ 0 }
-    requires inside { batch.place + batch.room ≤ batch.count }
-    requires room { batch.room ≡ length tries.old }
-    requires found { AreTried net.now.value batch desks.now }
+pub(crate) fn hand_on(desks: &[Desk], job: Job<'_>, tries: &mut [Tried])
+    requires bound { job.batch.bound ≡ 0 }
+    requires inside { job.batch.place + job.batch.room ≤ job.batch.count }
+    requires room { job.batch.room ≡ length tries.old }
+    requires found { AreTried job.zero.now.net job.batch desks.now }
     ensures len { length tries.new ≡ length tries.old }
-    ensures tries { AreTriesOf net.now.value batch.place (length tries.old) tries.new }
+    ensures tries { AreTriesOf job.entry.zero.now.net job.entry.batch.place (length tries.old) tries.new }
 {
+    let batch = job.batch;
     for number in 0..tries.len() {
         let desk = number % batch.desks as usize;
         let turn = number / batch.desks as usize;
         tries[number] = desks[desk].results.tries[turn];
     }
-}
-
-/// Tries consecutive moves of a network from a place on at a crew, all at once, and hands on the results.
-pub(crate) fn try_moves_of_crew<R: Threads + Sync, G: Gate>(
-    runner: &Runner<'_, R, G>,
-    desks: &mut [Desk],
-    zero: &Session,
-    from: u32,
-    tries: &mut [Tried],
-)
-    requires some { 0 < length desks.old }
-    requires few { length desks.old ≤ 8 }
-    requires ready { CanAllFollow zero.now.net false (sessions_of desks.old) }
-    requires places { from + length tries.old ≤ move_count zero.now.net }
-    requires room { length tries.old ≤ 32 * length desks.old }
-    ensures workers { length desks.new ≡ length desks.old }
-    ensures stand { AreStanding zero.now.net (sessions_of desks.new) }
-    ensures len { length tries.new ≡ length tries.old }
-    ensures tried { AreTriesOf zero.now.net from (length tries.old) tries.new }
-{
-    let batch = Batch {
-        place: from,
-        count: move_count(zero.net()),
-        room: tries.len() as u32,
-        desks: desks.len() as u32,
-        bound: 0,
-        known: false,
-    };
-    let net = Snapshot::of(zero.net());
-    try_moves_forked(runner, desks, zero, batch);
-    hand_on(desks, batch, &net, tries);
 }
 
 /// Tries consecutive moves of a session's network from a place on, one after another, in as many steps as they have work.
@@ -243,36 +181,10 @@ pub(crate) fn try_moves_alone<L: Ledger>(
     }
 }
 
-/// Tries the moves of a batch at a crew, all at once, and gives them as a stretch, up to the first that lowers the index.
-/// Desk 0 trades networks with the desk that has made it.
-fn try_stretch<R: Threads + Sync, G: Gate>(
-    runner: &Runner<'_, R, G>,
-    zero: &mut Session,
-    desks: &mut [Desk],
-    batch: Batch,
-) -> Stretch
-    requires some { batch.desks ≡ length desks.old }
-    requires closed { zero.old.before ≡ None }
-    requires ready { CanAllFollow zero.old.net batch.known (sessions_of desks.old) }
-    requires count { batch.count ≡ move_count zero.old.net }
-    requires bound { batch.bound ≡ index zero.old.net }
-    ensures workers { length desks.new ≡ length desks.old }
-    ensures has_tried { HasTriedBatch batch zero.old zero.new (sessions_of desks.new) result }
-{
-    let net = Snapshot::of(zero.net());
-    try_moves_forked(runner, desks, zero, batch);
-    let stretch = first_made(desks, batch, &net);
-    if stretch.made.is_none() {
-        return stretch;
-    }
-    let desk = (stretch.passed % batch.desks) as usize;
-    zero.trade(&mut desks[desk].session);
-    stretch
-}
-
-/// Tries the moves of a batch at the first of a crew, as many as it names, as `try_stretch` does. The others stay as they
-/// are.
-pub(crate) fn try_stretch_at_first<R: Threads + Sync, G: Gate>(
+/// Tries the moves of a batch at the first of a crew, as many as it names, all at once, and gives them as a stretch, up to
+/// the first that lowers the index. Desk 0 trades networks with the desk that has made it. The others of the crew stay as
+/// they are.
+pub(crate) fn try_stretch<R: Threads + Sync, G: Gate>(
     runner: &Runner<'_, R, G>,
     zero: &mut Session,
     desks: &mut [Desk],
@@ -289,6 +201,14 @@ pub(crate) fn try_stretch_at_first<R: Threads + Sync, G: Gate>(
     ensures others { drop batch.desks (sessions_of desks.new)
         ≡ drop batch.desks (sessions_of desks.old) }
 {
+    let net = Snapshot::of(zero.net());
     let (front, _) = desks.split_at_mut(batch.desks as usize);
-    try_stretch(runner, zero, front, batch)
+    try_moves_forked(runner, front, Job { zero, batch });
+    let stretch = first_made(front, batch, &net);
+    if stretch.made.is_none() {
+        return stretch;
+    }
+    let desk = (stretch.passed % batch.desks) as usize;
+    zero.trade(&mut front[desk].session);
+    stretch
 }

@@ -13,8 +13,8 @@ try_moves_forked-returns-else-is_empty-2 g t c =
     let back = split.result.1.now in
     let some : 0 < length c.args.desks.now = grind (arith, c.is_empty.ensures, c.if-is_empty.false) in
     let news : List Desk = c.try_moves_on_both.new.front ++ slice_set back 0 c.try_moves_on_both.new.last in
-    subst (λ (ds : List Desk). HaveTried c.args.zero.now.net c.args.batch ds news) (sym split.ensures.value)
-    (found_more c.args.zero.now.net c.args.batch split.result.0.now c.try_moves_on_both.new.front back
+    subst (λ (ds : List Desk). HaveTried c.args.job.zero.now.net c.args.job.batch ds news) (sym split.ensures.value)
+    (found_more c.args.job.zero.now.net c.args.job.batch split.result.0.now c.try_moves_on_both.new.front back
     c.index-last-0-else-is_empty-2.result c.try_moves_on_both.new.last (omega (arith, split.ensures.back_len, some))
     c.try_moves_on_both.ensures.front c.try_moves_on_both.ensures.last)
 
@@ -26,29 +26,29 @@ try_moves_forked-returns-then-is_empty-2 g t c =
     let some : 0 < length c.args.desks.now = grind (arith, c.is_empty.ensures, c.if-is_empty.false) in
     let none : length split.result.0.now ≡ 0 = grind (arith, c.is_empty-2.ensures, c.if-is_empty-2.true) in
     let news : List Desk = split.result.0.now ++ slice_set back 0 c.try_moves_at_gate.new.desk in
-    subst (λ (ds : List Desk). HaveTried c.args.zero.now.net c.args.batch ds news) (sym split.ensures.value)
-    (found_more c.args.zero.now.net c.args.batch split.result.0.now split.result.0.now back c.index-last-0.result c.try_moves_at_gate.new.desk
+    subst (λ (ds : List Desk). HaveTried c.args.job.zero.now.net c.args.job.batch ds news) (sym split.ensures.value)
+    (found_more c.args.job.zero.now.net c.args.job.batch split.result.0.now split.result.0.now back c.index-last-0.result c.try_moves_at_gate.new.desk
     (omega (arith, split.ensures.back_len, some))
     (record { len = refl; each = λ k d less. absurd (omega (arith, none, less)) })
-    (subst (λ n. HasTried c.args.zero.now.net c.args.batch n (slice_index_or back 0 c.index-last-0.result) c.try_moves_at_gate.new.desk) (sym none)
+    (subst (λ n. HasTried c.args.job.zero.now.net c.args.job.batch n (slice_index_or back 0 c.index-last-0.result) c.try_moves_at_gate.new.desk) (sym none)
     c.try_moves_at_gate.ensures))
 
 pub try_moves_forked-try_moves_at_gate-requires-clause-ready : goal.try_moves_forked-try_moves_at_gate-requires-clause-ready
 try_moves_forked-try_moves_at_gate-requires-clause-ready g t c κs within =
     let split = c.split_at_mut-front in
     let some : 0 < length c.args.desks.now = grind (arith, c.is_empty.ensures, c.if-is_empty.false) in
-    all_last (λ (d : Desk). CanFollow c.args.zero.now.net c.args.batch.known d.session) c.args.desks.now split.result.0.now split.result.1.now split.ensures.value
+    all_last (λ (d : Desk). CanFollow c.args.job.zero.now.net c.args.job.batch.known d.session) c.args.desks.now split.result.0.now split.result.1.now split.ensures.value
     c.requires.ready (omega (arith, split.ensures.back_len, some)) c.index-last-0.result
 
 pub try_moves_forked-try_moves_on_both-requires-clause-ready : goal.try_moves_forked-try_moves_on_both-requires-clause-ready
 try_moves_forked-try_moves_on_both-requires-clause-ready g t c κs within =
     let split = c.split_at_mut-front in
-    all_front (λ (d : Desk). CanFollow c.args.zero.now.net c.args.batch.known d.session) c.args.desks.now split.result.0.now split.result.1.now split.ensures.value
+    all_front (λ (d : Desk). CanFollow c.args.job.zero.now.net c.args.job.batch.known d.session) c.args.desks.now split.result.0.now split.result.1.now split.ensures.value
     c.requires.ready
 
 pub try_moves_forked-try_moves_on_both-requires-clause-last_ready : goal.try_moves_forked-try_moves_on_both-requires-clause-last_ready
 try_moves_forked-try_moves_on_both-requires-clause-last_ready g t c κs within =
     let split = c.split_at_mut-front in
     let some : 0 < length c.args.desks.now = grind (arith, c.is_empty.ensures, c.if-is_empty.false) in
-    all_last (λ (d : Desk). CanFollow c.args.zero.now.net c.args.batch.known d.session) c.args.desks.now split.result.0.now split.result.1.now split.ensures.value
+    all_last (λ (d : Desk). CanFollow c.args.job.zero.now.net c.args.job.batch.known d.session) c.args.desks.now split.result.0.now split.result.1.now split.ensures.value
     c.requires.ready (omega (arith, split.ensures.back_len, some)) c.index-last-0-else-is_empty-2.result

@@ -3,6 +3,8 @@ use Rattle.std.proofs.Common.{◌≡◌, ℕ, ◌+◌, ◌/◌, ◌<◌, ◌≤�
 use Rattle.std.proofs.lemmas.Bool.Decides.{nat_tests}
 use Rattle.transyt_moves.specs.Moves.{move}
 use Rattle.transyt_session.specs.declared.answers.Tried.TheVariants.{Barred}
+use Rattle.transyt_track.specs.Due.{edit_work}
+use Rattle.transyt_desks.specs.declared.stretch.Stretch.{Stretch}
 use Rattle.transyt_desks.specs.Stretches.{IsStretch, made_at, passing, place_at, work_found}
 use Rattle.transyt_desks.proofs.ResultLaws.{results_of, found_at, found_few, found_passes, its, stopped_at, stopped_made}
 use Rattle.transyt_desks.proofs.StretchLaws.{stretch_made, stretch_passes}
@@ -23,16 +25,19 @@ loop-number-preserved c =
     ∙ try_work net (move net place) in
     let higher = none_lowers net place (ap (λ b. made_at net b place) (sym c.requires.bound)
     ∙ found_passes net batch c.args.desks.now n d c.requires.found c.loop-number-test.true before) in
+    let old = c.loop-number.stretch in
+    let new : Stretch = record { passed = old.passed + 1; work = old.work + c.work_found.result; made = old.made } in
+    let is : new ≡ passing old (edit_work net (move net place)) =
+    (λ i. record { passed = old.passed + 1; work = old.work + (c.work_found.ensures ∙ worked) i; made = so.going i }) in
     record {
-      stretch = subst (IsStretch net batch.place batch.count (n + 1))
-          (sym (c.pass-stretch.ensures ∙ ap (passing c.loop-number.stretch) worked))
-          (stretch_passes net batch.place batch.count n c.loop-number.stretch so.stretch so.going higher
+      stretch = subst (IsStretch net batch.place batch.count (n + 1)) (sym is)
+          (stretch_passes net batch.place batch.count n old so.stretch so.going higher
           (found_few net batch c.args.desks.now n d c.requires.found c.loop-number-test.true before));
-      going = ap (λ s. s.made) c.pass-stretch.ensures;
+      going = so.going;
     }
 
-pub pass-stretch-requires-clause-work : goal.pass-stretch-requires-clause-work
-pass-stretch-requires-clause-work c =
+pub overflow_add-stretch-in-loop-number : goal.overflow_add-stretch-in-loop-number
+overflow_add-stretch-in-loop-number c =
     let net = c.args.net.now.value in
     let batch = c.args.batch in
     let n = c.loop-number.number in
@@ -43,7 +48,7 @@ pass-stretch-requires-clause-work c =
     ap work_found (found_at net batch c.args.desks.now n d c.requires.found c.loop-number-test.true Barred before)
     ∙ try_work net (move net (place_at batch.place batch.count n)) in
     let few = found_few net batch c.args.desks.now n d c.requires.found c.loop-number-test.true before in
-    omega (arith, worked, few, so.stretch.few, so.stretch.inside, c.loop-number-test.true, batch.room_within, batch.many)
+    omega (arith, c.work_found.ensures, worked, few, so.stretch.few, so.stretch.inside, c.loop-number-test.true, batch.room_within, batch.many)
 
 pub returns-then-turn-results-clause-stretch : goal.returns-then-turn-results-clause-stretch
 returns-then-turn-results-clause-stretch c =

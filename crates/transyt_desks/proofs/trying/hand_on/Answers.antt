@@ -11,8 +11,8 @@ use Rattle.transyt_desks.proofs.trying.hand_on.Goals as goal
 
 pub loop-number-preserved : goal.loop-number-preserved
 loop-number-preserved c =
-    let net = c.args.net.now.value in
-    let batch = c.args.batch in
+    let net = c.args.job.zero.now.net in
+    let batch = c.args.job.batch in
     let n = c.loop-number.number in
     let d = c.index-desks-desk.result in
     let inside : n < batch.room = omega (arith, c.loop-number-test.true, c.loop-number.invariant.len, c.requires.room) in

@@ -6,6 +6,6 @@ use Rattle.transyt_desks.proofs.trying.hand_on.Given as goal
 -- they stand at the front
 abbrev pub invariant-loop-number : goal.invariant-loop-number
 invariant-loop-number l = record {
-  tries : AreTriesOf l.net.value l.batch.place l.number l.tries;
+  tries : AreTriesOf l.job.zero.now.net l.job.batch.place l.number l.tries;
   len : length l.tries ≡ length l.fn.tries;
 }

@@ -16,17 +16,17 @@ loop-turn-preserved c =
     let so = c.loop-turn.invariant in
     let told = c.try_at-found.ensures in
     let n = c.loop-turn.turn in
-    let place : c.place_of.result ≡ turn_place c.args.batch c.args.desk n = c.place_of.ensures.value in
+    let place : c.in-Some.place ≡ turn_place c.args.attempt.job.batch c.args.attempt.desk n = c.in-Some.ensures.value in
     let net_is : c.loop-turn.session.net ≡ net = ap (λ (s : SessionValue). s.net) so.same in
     let none : c.try_at-found.result.1 ≡ None = none_made c.try_at-found.result.1 (sym c.is_some.ensures ∙ c.if-is_some.false) in
     record {
-      tries = tries_more net (turn_place c.args.batch c.args.desk) n c.loop-turn.results.tries c.try_at-found.result.0
+      tries = tries_more net (turn_place c.args.attempt.job.batch c.args.attempt.desk) n c.loop-turn.results.tries c.try_at-found.result.0
           (omega (arith, so.len, c.loop-turn-test.true)) so.tries
           (told.tried ∙ (λ i. try_of (net_is i) (move (net_is i) (place i))))
           (subst (λ p. edit_work net (move net p) ≤ 8000) place
-          (subst (λ u. edit_work u (move u c.place_of.result) ≤ 8000) net_is told.few));
-      passes = below_more (λ k. made_at net c.args.batch.bound (turn_place c.args.batch c.args.desk k) ≡ None) n so.passes
-          (sym (told.made ∙ (λ i. made_at (net_is i) c.args.batch.bound (place i))) ∙ none);
+          (subst (λ u. edit_work u (move u c.in-Some.place) ≤ 8000) net_is told.few));
+      passes = below_more (λ k. made_at net c.args.attempt.job.batch.bound (turn_place c.args.attempt.job.batch c.args.attempt.desk k) ≡ None) n so.passes
+          (sym (told.made ∙ (λ i. made_at (net_is i) c.args.attempt.job.batch.bound (place i))) ∙ none);
       passed = refl;
       none = none;
       len = length-set c.loop-turn.results.tries n c.try_at-found.result.0 ∙ so.len;

@@ -9,8 +9,8 @@ use Rattle.transyt_desks.proofs.CrewLaws.{first_can, tried_alike, tried_are}
 use Rattle.transyt_desks.proofs.DeskLaws.{crew_count, sessions_count}
 use Rattle.transyt_desks.proofs.desks.Desks.try_batch.Goals as goal
 
-pub try_stretch_at_first-tried-requires-clause-ready : goal.try_stretch_at_first-tried-requires-clause-ready
-try_stretch_at_first-tried-requires-clause-ready g c κs within =
+pub try_stretch-tried-requires-clause-ready : goal.try_stretch-tried-requires-clause-ready
+try_stretch-tried-requires-clause-ready g c κs within =
     let n = c.args.batch.desks in
     let crew = c.self.inside.crew.items in
     subst (λ ss. CanAllFollow c.self.inside.zero.net c.with_known-batch.result.known ss)
@@ -23,14 +23,14 @@ pub invariant_of-self : goal.invariant_of-self
 invariant_of-self g c =
     let n = c.args.batch.desks in
     let olds = sessions_of c.self.inside.crew.items in
-    let news = c.try_stretch_at_first-tried.new.desks in
+    let news = c.try_stretch-tried.new.desks in
     let desks_is = c.with_known-batch.ensures.desks in
-    let counts = c.try_stretch_at_first-tried.ensures.workers ∙ ap length c.as_mut_slice.ensures.value in
-    let written = with_items_is c.self.inside.crew news (c.try_stretch_at_first-tried.ensures.workers ∙ c.as_mut_slice.ensures.len) in
-    let several = subst (λ ss. 1 < length ss) (sym c.self.view_is) c.requires.several in
-    subst (λ ds. AreDesks c.try_stretch_at_first-tried.new.zero (sessions_of ds) c.known_after-self-inside.result) (sym written)
-    (tried_are n c.self.inside.zero c.try_stretch_at_first-tried.new.zero olds (sessions_of news) c.self.inside.in_step
-    c.with_known-batch.result c.try_stretch_at_first-tried.result
+    let counts = c.try_stretch-tried.ensures.workers ∙ ap length c.as_mut_slice.ensures.value in
+    let written = with_items_is c.self.inside.crew news (c.try_stretch-tried.ensures.workers ∙ c.as_mut_slice.ensures.len) in
+    let several = subst (λ ss. 1 < length ss) (sym c.self.view_is) (let two : 1 < length c.args.self.now = omega (arith, c.args.batch.several, c.requires.within) in two) in
+    subst (λ ds. AreDesks c.try_stretch-tried.new.zero (sessions_of ds) c.known_after-self-inside.result) (sym written)
+    (tried_are n c.self.inside.zero c.try_stretch-tried.new.zero olds (sessions_of news) c.self.inside.in_step
+    c.with_known-batch.result c.try_stretch-tried.result
     (omega (
       arith,
       c.requires.within,
@@ -39,24 +39,24 @@ invariant_of-self g c =
     ))
     (omega (arith, counts, sessions_count news, sessions_count c.self.inside.crew.items))
     (subst (λ m. drop m (sessions_of news) ≡ drop m olds) desks_is
-    (c.try_stretch_at_first-tried.ensures.others ∙ ap (λ (ds : List Desk). drop c.with_known-batch.result.desks (sessions_of ds)) c.as_mut_slice.ensures.value))
+    (c.try_stretch-tried.ensures.others ∙ ap (λ (ds : List Desk). drop c.with_known-batch.result.desks (sessions_of ds)) c.as_mut_slice.ensures.value))
     c.self.invariant (subst AreAlike (sym c.self.view_is) c.requires.alike)
-    (subst (λ m. HasTriedBatch c.with_known-batch.result c.self.inside.zero c.try_stretch_at_first-tried.new.zero
-    (take m (sessions_of news)) c.try_stretch_at_first-tried.result) desks_is c.try_stretch_at_first-tried.ensures.has_tried)
+    (subst (λ m. HasTriedBatch c.with_known-batch.result c.self.inside.zero c.try_stretch-tried.new.zero
+    (take m (sessions_of news)) c.try_stretch-tried.result) desks_is c.try_stretch-tried.ensures.has_tried)
     c.known_after-self-inside.result c.known_after-self-inside.ensures.none c.known_after-self-inside.ensures.some)
 
 pub returns-clause-alike : goal.returns-clause-alike
 returns-clause-alike g c =
     let n = c.args.batch.desks in
     let olds = sessions_of c.self.inside.crew.items in
-    let news = c.try_stretch_at_first-tried.new.desks in
+    let news = c.try_stretch-tried.new.desks in
     let desks_is = c.with_known-batch.ensures.desks in
-    let counts = c.try_stretch_at_first-tried.ensures.workers ∙ ap length c.as_mut_slice.ensures.value in
-    let written = with_items_is c.self.inside.crew news (c.try_stretch_at_first-tried.ensures.workers ∙ c.as_mut_slice.ensures.len) in
-    let several = subst (λ ss. 1 < length ss) (sym c.self.view_is) c.requires.several in
-    subst (λ ds. AreAlike (desks_of c.try_stretch_at_first-tried.new.zero (sessions_of ds))) (sym written)
-    (tried_alike n c.self.inside.zero c.try_stretch_at_first-tried.new.zero olds (sessions_of news) c.self.inside.in_step
-    c.with_known-batch.result c.try_stretch_at_first-tried.result
+    let counts = c.try_stretch-tried.ensures.workers ∙ ap length c.as_mut_slice.ensures.value in
+    let written = with_items_is c.self.inside.crew news (c.try_stretch-tried.ensures.workers ∙ c.as_mut_slice.ensures.len) in
+    let several = subst (λ ss. 1 < length ss) (sym c.self.view_is) (let two : 1 < length c.args.self.now = omega (arith, c.args.batch.several, c.requires.within) in two) in
+    subst (λ ds. AreAlike (desks_of c.try_stretch-tried.new.zero (sessions_of ds))) (sym written)
+    (tried_alike n c.self.inside.zero c.try_stretch-tried.new.zero olds (sessions_of news) c.self.inside.in_step
+    c.with_known-batch.result c.try_stretch-tried.result
     (omega (
       arith,
       c.requires.within,
@@ -65,7 +65,7 @@ returns-clause-alike g c =
     ))
     (omega (arith, counts, sessions_count news, sessions_count c.self.inside.crew.items))
     (subst (λ m. drop m (sessions_of news) ≡ drop m olds) desks_is
-    (c.try_stretch_at_first-tried.ensures.others ∙ ap (λ (ds : List Desk). drop c.with_known-batch.result.desks (sessions_of ds)) c.as_mut_slice.ensures.value))
+    (c.try_stretch-tried.ensures.others ∙ ap (λ (ds : List Desk). drop c.with_known-batch.result.desks (sessions_of ds)) c.as_mut_slice.ensures.value))
     c.self.invariant (subst AreAlike (sym c.self.view_is) c.requires.alike)
-    (subst (λ m. HasTriedBatch c.with_known-batch.result c.self.inside.zero c.try_stretch_at_first-tried.new.zero
-    (take m (sessions_of news)) c.try_stretch_at_first-tried.result) desks_is c.try_stretch_at_first-tried.ensures.has_tried))
+    (subst (λ m. HasTriedBatch c.with_known-batch.result c.self.inside.zero c.try_stretch-tried.new.zero
+    (take m (sessions_of news)) c.try_stretch-tried.result) desks_is c.try_stretch-tried.ensures.has_tried))

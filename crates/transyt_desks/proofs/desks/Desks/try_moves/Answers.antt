@@ -1,17 +1,38 @@
--- Desks that stand for one network are alike.
-use Rattle.std.proofs.Common.{length, sym, ap, ◌∙◌, subst, arith}
+-- All of the crew stand for the network of desk 0, with the bound 0.
+use Rattle.std.proofs.Common.{ℕ, ◌<◌, List, length, slice_index_or, false, refl, sym, ap, ◌∙◌, subst, arith}
 use Rattle.std.proofs.lemmas.List.{with_items_is}
-use Rattle.transyt_desks.specs.Desks.{desks_of, sessions_of, AreAlike}
-use Rattle.transyt_desks.proofs.DeskLaws.{aligned_alike, sessions_count, standing_aligned}
+use Rattle.transyt_desks.specs.declared.desk.Desk.{Desk}
+use Rattle.transyt_desks.specs.Batches.{CanFollow}
+use Rattle.transyt_desks.specs.Desks.{desks_of, sessions_of, AreAlike, AreDesks}
+use Rattle.transyt_desks.proofs.BatchLaws.{all_standing}
+use Rattle.transyt_desks.proofs.CrewLaws.{each_can}
+use Rattle.transyt_desks.proofs.DeskLaws.{aligned_alike, sessions_count, standing_aligned, standing_are}
 use Rattle.transyt_desks.proofs.desks.Desks.try_moves.Goals as goal
+
+pub try_moves_forked-requires-clause-ready : goal.try_moves_forked-requires-clause-ready
+try_moves_forked-requires-clause-ready g c κs within =
+    subst (λ (ds : List Desk). (k : ℕ) (d : Desk) → k < length ds → CanFollow c.self.inside.zero.net false (slice_index_or ds k d).session)
+    (sym c.as_mut_slice.ensures.value)
+    (each_can c.self.inside.zero c.self.inside.crew.items c.self.inside.in_step c.self.invariant
+    (subst AreAlike (sym c.self.view_is) c.requires.alike))
 
 pub returns-clause-alike : goal.returns-clause-alike
 returns-clause-alike g c =
     let olds = c.self.inside.crew.items in
-    let written = with_items_is c.self.inside.crew c.try_moves_of_crew.new.desks (c.try_moves_of_crew.ensures.workers ∙ c.as_mut_slice.ensures.len) in
+    let news = c.try_moves_forked.new.desks in
+    let written = with_items_is c.self.inside.crew news (c.try_moves_forked.ensures.len ∙ c.as_mut_slice.ensures.len) in
     subst (λ ds. AreAlike (desks_of c.self.inside.zero (sessions_of ds))) (sym written)
-    (aligned_alike (desks_of c.self.inside.zero (sessions_of c.try_moves_of_crew.new.desks))
-    (standing_aligned c.self.inside.zero (sessions_of olds) (sessions_of c.try_moves_of_crew.new.desks) c.self.inside.in_step
-    c.self.invariant
-    (omega (arith, sessions_count olds, sessions_count c.try_moves_of_crew.new.desks, c.try_moves_of_crew.ensures.workers, ap length c.as_mut_slice.ensures.value))
-    c.try_moves_of_crew.ensures.stand))
+    (aligned_alike (desks_of c.self.inside.zero (sessions_of news))
+    (standing_aligned c.self.inside.zero (sessions_of olds) (sessions_of news) c.self.inside.in_step c.self.invariant
+    (omega (arith, sessions_count olds, sessions_count news, c.try_moves_forked.ensures.len, ap length c.as_mut_slice.ensures.value))
+    (all_standing c.self.inside.zero.net _ c.as_mut_slice.result.now news c.try_moves_forked.ensures refl)))
+
+pub invariant_of-self-2 : goal.invariant_of-self-2
+invariant_of-self-2 g c =
+    let olds = c.self.inside.crew.items in
+    let news = c.try_moves_forked.new.desks in
+    let written = with_items_is c.self.inside.crew news (c.try_moves_forked.ensures.len ∙ c.as_mut_slice.ensures.len) in
+    subst (λ ds. AreDesks c.self.inside.zero (sessions_of ds) c.len-self-inside.result) (sym written)
+    (standing_are c.self.inside.zero (sessions_of olds) (sessions_of news) c.self.inside.in_step c.self.invariant
+    (omega (arith, sessions_count olds, sessions_count news, c.try_moves_forked.ensures.len, ap length c.as_mut_slice.ensures.value))
+    (all_standing c.self.inside.zero.net _ c.as_mut_slice.result.now news c.try_moves_forked.ensures refl) c.len-self-inside.result)
