@@ -1,6 +1,6 @@
 -- THE LAW OF THE FRONT: each turn keeps it.
 use Rattle.std.proofs.Common.{◌≡◌, ◌≢◌, ℕ, ◌+◌, ◌<◌, ◌≤◌, Bool, true, false, cond, not, ◌||◌, List, length}
-use Rattle.std.proofs.Common.{set, nat_eq, refl, ap, sym, subst, ◌∙◌, arith}
+use Rattle.std.proofs.Common.{set, refl, ap, sym, subst, ◌∙◌, arith}
 use Rattle.std.proofs.Common.{◌==◌, ◌⊎◌, inl, inr, if◌then◌else◌}
 use Rattle.std.specs.Str.{bytes_eq}
 use Rattle.std.specs.List.{list_any}
@@ -37,26 +37,6 @@ same_test s sweeps same = grind (arith, nat_tests)
 
 pub other_test : (s sweeps : ℕ) → (sweeps ≡ s → ⊥) → (s == sweeps) ≡ false
 other_test s sweeps other = let apart : sweeps ≢ s = other in grind (arith, nat_tests)
-
-same_number_eq : (x y : ℕ) → x ≡ y → nat_eq x y ≡ true
-same_number_eq x y same = grind (arith, nat_tests)
-
-other_number_eq : (x y : ℕ) → x ≢ y → nat_eq x y ≡ false
-other_number_eq x y other = grind (arith, nat_tests)
-
--- a flag that is set
-pub flag_set : (flags : List Bool) (l : ℕ) (d : Bool) → l < length flags → (m : ℕ)
-    → flag (set flags l d) m ≡ (if nat_eq m l then d else flag flags m)
-flag_set flags l d inside m = by (cases_eq m l)
-  where
-    by : (m ≡ l) ⊎ (m ≡ l → ⊥) → flag (set flags l d) m ≡ (if nat_eq m l then d else flag flags m)
-    by (inl here) =
-        get_or-set_at flags l m d false here inside
-        ∙ sym (ap (λ t. if t then d else flag flags m) (same_number_eq m l here))
-    by (inr other) =
-        let apart : m ≢ l = other in
-        get_or-set_other flags l m d false other
-        ∙ sym (ap (λ t. if t then d else flag flags m) (other_number_eq m l apart))
 
 -- one flag more is set
 pub flag_more : (flags : List Bool) (l : ℕ) (d : Bool) (test : ℕ → Bool) → l < length flags

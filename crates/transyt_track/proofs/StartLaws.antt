@@ -14,7 +14,7 @@ use Rattle.transyt_profile.specs.Profile.{uniform}
 use Rattle.transyt_parts.specs.declared.frame.Frame.{Frame}
 use Rattle.transyt_parts.specs.Parts.{total_flow}
 use Rattle.transyt_parts.specs.Valid.{IsFrame}
-use Rattle.transyt_net.specs.Parts.{Network, link_of, no_link, SameShape, perstep}
+use Rattle.transyt_net.specs.Parts.{Network, link_of, SameShape, perstep}
 use Rattle.transyt_sweep.specs.Sweeps.{read_at, out_of, start, evaluated}
 use Rattle.transyt_kept.specs.Rows.{RowsValue, shown_at, with_out, AreRows}
 use Rattle.transyt_sweep.specs.Front.{AreEvaluation}
@@ -29,7 +29,6 @@ use Rattle.transyt_track.proofs.FlagLaws.{any_same, or_false}
 use Rattle.transyt_track.proofs.FrontLaws.{turned_sweep}
 use Rattle.transyt_track.proofs.CompareLaws.{none_up, none_of}
 use Rattle.transyt_track.proofs.ChangeLaws.{own_flag}
-use Rattle.transyt_track.proofs.RuleLaws.{same_number}
 use Rattle.transyt_track.proofs.DueLaws.{same_out, differs_is}
 use Rattle.transyt_track.proofs.ShapeLaws.{shape_count, shape_frame, shape_places, reads_inside}
 
@@ -199,9 +198,3 @@ module _ (a b : Network) (same : SameShape a b) where
         ∙ any_same (flag out_changed) (total_differs a b) (length b.links) flagged.totals.flagged feeders
         (reads_inside a b same l (length b.links) inside refl).0);
   }
-
-  -- where the links are equal, no total flow differs
-  pub links_totals : a.links ≡ b.links → (l : ℕ) → total_differs a b l ≡ false
-  links_totals links l =
-      ap (λ ls. not (nat_eq (total_flow (get_or ls l no_link)) (total_flow (link_of b l)))) links
-      ∙ ap not (same_number (total_flow (link_of b l)))

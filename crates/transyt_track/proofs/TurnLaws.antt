@@ -4,7 +4,6 @@ use Rattle.std.proofs.Common.{◌≡◌, ℕ, ◌+◌, ◌<◌, ◌≤◌, Bool,
 use Rattle.std.proofs.Common.{refl, ap, sym, ◌∙◌, arith, set}
 use Rattle.std.specs.Str.{bytes_eq}
 use Rattle.std.specs.Option.{is_some}
-use Rattle.std.specs.Cmp.Lexicographic.{same_text}
 use Rattle.std.proofs.lemmas.Bool.{or_parts}
 use Rattle.transyt_parts.specs.declared.link.GiveWay.{GiveWay}
 use Rattle.transyt_net.specs.Parts.{Network, link_of, SameShape}
@@ -68,7 +67,3 @@ go_told a b s l rows changed at same first swept inside c made own_changed owned
     let parts = or_parts (flag own_changed l) (is_some (link_of b l).gives_way) (sym told ∙ none) in
     go_stays a b s l rows changed at same inside (sym last) (sym (owned.flagged l inside) ∙ parts.0) parts.1
     ∙ sym (ap (λ (v : CellValue). v.go) (worked_is a b s l rows changed at same first swept inside c made))
-
--- and its departures are those of the rows where they don't differ
-pub out_told : (d : Bool) (one other : List ℕ) → d ≡ not (bytes_eq one other) → d ≡ false → one ≡ other
-out_told d one other told none = same_text one other (sym (not_false (bytes_eq one other) (sym told ∙ none)))

@@ -4,10 +4,7 @@ ghost use Rattle.std.specs.Prelude.{◌≡◌, ◌+◌, ◌<◌, ◌≤◌, ◌|
 ghost use Rattle.std.specs.Str.{bytes_eq};
 ghost use Rattle.std.specs.Option.{is_some};
 ghost use Rattle.transyt_net.specs.Parts.{link_of};
-ghost use Rattle.transyt_kept.specs.Rows.{out_at};
-ghost use Rattle.transyt_sweep.specs.Cell.{cell_by};
 ghost use Rattle.transyt_sweep.specs.Front.{AreEvaluation};
-ghost use Rattle.transyt_sweep.specs.Reading.{Fits, read_in};
 ghost use Rattle.transyt_track.specs.Due.{is_due, due_at, due};
 ghost use Rattle.transyt_track.specs.Change.{HasRoom, IsFront};
 ghost use Rattle.transyt_track.specs.Front.{flag};
@@ -17,9 +14,8 @@ use crate::reading::is_due;
 use crate::replacing::{Differs, leave, place};
 use crate::starting::set_out;
 use std::sync::ledger::Ledger;
-use transyt_kept::Rows;
 use transyt_steps::Steps;
-use transyt_sweep::{Scratch, cell};
+use transyt_sweep::cell;
 
 /// Whether rows of as many steps differ. All steps are read: with no jump out, several are compared at a time.
 fn differ(one: &[u64], other: &[u64]) -> bool
@@ -33,16 +29,6 @@ fn differ(one: &[u64], other: &[u64]) -> bool
     bits != 0
 }
 
-/// Whether the departures of a link at a sweep differ from those of a scratch.
-fn row_differs(rows: &Rows, sweep: u32, link: usize, scratch: &Scratch) -> bool
-    requires sweep { sweep ≤ rows.now.now.sweeps }
-    requires link { link < length rows.now.now.figures }
-    requires steps { length scratch.now.arrivals ≡ rows.now.now.step_count }
-    ensures { result ≡ not (bytes_eq (out_at rows.now.now sweep link) scratch.now.out) }
-{
-    differ(rows.out(sweep, link), scratch.out())
-}
-
 /// Whether a link's GO may differ: its own data do, or it gives way to another link.
 fn go_may_differ(pair: &Pair<'_, '_>, own_changed: &[bool]) -> bool
     requires { length own_changed.now ≡ length pair.now.change.now.after.now.links }
@@ -53,33 +39,6 @@ fn go_may_differ(pair: &Pair<'_, '_>, own_changed: &[bool]) -> bool
     own_changed[pair.link] || at.gives_way.is_some()
 }
 
-/// Works a pair out into a scratch. Returns whether its departures differ from those of the rows.
-fn work_cell<L: Ledger>(
-    pair: &Pair<'_, '_>,
-    kept: &Rows,
-    scratch: &mut Scratch,
-    steps: &mut Steps<L>,
-) -> bool
-    requires fits { Fits pair.now.change.now.after.now kept.now.now }
-    requires step_count { length scratch.old.arrivals
-        ≡ pair.now.change.now.after.now.frame.step_count }
-    ensures value { scratch.new ≡ cell_by pair.now.change.now.after.now
-        (read_in kept.now.now pair.now.sweep pair.now.link) pair.now.link }
-    ensures differs { result
-        ≡ not (bytes_eq (out_at kept.now.now pair.now.sweep pair.now.link) scratch.new.out) }
-    ensures steps { steps.new ≡ steps.old + 1 }
-{
-    cell(
-        pair.change.after,
-        pair.link,
-        pair.sweep,
-        kept,
-        scratch,
-        steps,
-    );
-    row_differs(kept, pair.sweep, pair.link, scratch)
-}
-
 /// The pair at the front is due: it is worked out.
 fn work_out<L: Ledger>(pair: &Pair<'_, '_>, front: &mut Front, steps: &mut Steps<L>)
     requires { IsFront pair.now.change.now pair.now.sweep pair.now.link front.old }
@@ -87,9 +46,19 @@ fn work_out<L: Ledger>(pair: &Pair<'_, '_>, front: &mut Front, steps: &mut Steps
     ensures marked { front.new.kept.marked ≡ front.old.kept.marked }
     ensures steps { steps.new ≡ steps.old + 1 }
 {
-    let out = work_cell(pair, &front.kept, &mut front.scratch, steps);
+    let sweep = pair.sweep;
+    let link = pair.link;
+    cell(
+        pair.change.after,
+        link,
+        sweep,
+        &front.kept,
+        &mut front.scratch,
+        steps,
+    );
+    let out = differ(front.kept.out(sweep, link), front.scratch.out());
     let go = go_may_differ(pair, &front.own_changed);
-    front.out_changed[pair.link] = out;
+    front.out_changed[link] = out;
     place(pair, Differs { out, go }, front);
 }
 

@@ -15,7 +15,7 @@ use crate::change::{Change, Front};
 use crate::found::Found;
 use crate::front::follow_rows;
 use crate::own::{Places, edited_node};
-use crate::returning::{copy_rows, go_back};
+use crate::returning::copy_rows;
 use crate::room::Room;
 use std::alloc::{AllocError, Global};
 use std::marker::Model;
@@ -283,7 +283,12 @@ impl Tracker {
         };
         let due = follow_rows(&change, &mut self.front, steps);
         let index = self.front.kept.index();
-        settle_on(&mut self.net, after, e, index < bound, &mut self.front.kept);
+        if index < bound {
+            make(&mut self.net, e);
+            self.front.kept.settle();
+        } else {
+            self.front.kept.restore();
+        }
         Found { index, due }
     }
 
@@ -315,7 +320,7 @@ impl Tracker {
         ensures mark { self.new.mark ≡ None }
         ensures shape { SameShape self.old.net self.new.net }
     {
-        go_back(&self.marked, &mut self.front.kept);
+        self.front.kept.restore();
         mem::swap(&mut self.net, &mut self.marked);
     }
 
@@ -335,26 +340,4 @@ fn make(net: &mut Net, e: Edit)
     ensures { net.new ≡ with_edit net.old e }
 {
     let _ = net.apply(e);
-}
-
-/// The rows of an evaluation of `after`, which is a network with an allowed edit made, are kept, and the edit is made
-/// in the network itself, or the rows go back to those of the mark. The mark is gone.
-fn settle_on(net: &mut Net, after: &Net, e: Edit, keeps: bool, kept: &mut Rows)
-    requires shape { SameShape net.old after.now }
-    requires allowed { edit_fault net.old e ≡ None }
-    requires after { after.now ≡ with_edit net.old e }
-    requires rows { AreEvaluation after.now kept.old.now }
-    requires marked { IsSome kept.old.marked }
-    requires mark { AreOfMark net.old kept.old.marked }
-    ensures net { net.new ≡ (if keeps then after.now else net.old) }
-    ensures shape { SameShape after.now net.new }
-    ensures rows { AreEvaluation net.new kept.new.now }
-    ensures closed { kept.new.marked ≡ None }
-{
-    if keeps {
-        make(net, e);
-        kept.settle();
-        return;
-    }
-    go_back(net, kept);
 }

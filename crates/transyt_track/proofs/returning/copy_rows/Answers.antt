@@ -1,5 +1,5 @@
 -- One pair more.
-use Rattle.std.proofs.Common.{◌≡◌, ◌+◌, ◌<◌, ◌≤◌, length, ap, subst, ◌∙◌, arith}
+use Rattle.std.proofs.Common.{◌≡◌, ◌+◌, ◌<◌, ◌≤◌, length, ap, sym, subst, ◌∙◌, arith}
 use Rattle.transyt_parts.specs.declared.frame.Frame.{Frame}
 use Rattle.transyt_sweep.specs.Sweeps.{out_of, evaluated}
 use Rattle.transyt_kept.specs.Rows.{out_at, shown_at}
@@ -11,6 +11,20 @@ use Rattle.transyt_track.proofs.MixedLaws.{shown_turn}
 use Rattle.transyt_track.proofs.BackLaws.{copied_outs, copied_shown, copied_end}
 use Rattle.transyt_track.proofs.returning.copy_rows.Goals as goal
 
+pub take_pair-requires : goal.take_pair-requires
+take_pair-requires c =
+    let fits = c.loop-link.invariant.outs.fits in
+    let of = c.requires.from.fits in
+    record {
+      sweep = omega (arith, c.loop-sweep-test.true, ap (λ (f : Frame). f.sweeps) c.frame-sweep-end.ensures.value, fits.sweeps);
+      link = omega (arith, c.loop-link-test.true, ap length c.links-link-end.ensures.value, fits.link_count);
+      size = record {
+        step_count = fits.step_count ∙ sym of.step_count;
+        sweeps = fits.sweeps ∙ sym of.sweeps;
+        link_count = fits.link_count ∙ sym of.link_count;
+      };
+    }
+
 pub loop-link-preserved : goal.loop-link-preserved
 loop-link-preserved c =
     let net = c.args.net.now in
@@ -20,13 +34,13 @@ loop-link-preserved c =
     let inside : c.loop-link.link < length net.links = omega
     (arith, c.loop-link-test.true, ap length c.links-link-end.ensures.value) in
     record {
-      outs = rw (ap (λ (k : KeptValue). k.now) c.copy_pair.ensures.value) (copied_outs net c.args.from.now.now c.requires.from (out_at old) (shown_at old)
-          c.loop-sweep.sweep c.loop-link.link c.loop-link.kept.now c.loop-link.invariant.outs c.copy_pair.ensures.rows
+      outs = rw (ap (λ (k : KeptValue). k.now) c.take_pair.ensures.value) (copied_outs net c.args.from.now.now c.requires.from (out_at old) (shown_at old)
+          c.loop-sweep.sweep c.loop-link.link c.loop-link.kept.now c.loop-link.invariant.outs c.take_pair.ensures.kept
           swept inside);
-      shown = rw (ap (λ (k : KeptValue). k.now) c.copy_pair.ensures.value) (copied_shown net c.args.from.now.now c.requires.from (out_at old) (shown_at old)
-          c.loop-sweep.sweep c.loop-link.link c.loop-link.kept.now c.loop-link.invariant.outs c.copy_pair.ensures.rows
+      shown = rw (ap (λ (k : KeptValue). k.now) c.take_pair.ensures.value) (copied_shown net c.args.from.now.now c.requires.from (out_at old) (shown_at old)
+          c.loop-sweep.sweep c.loop-link.link c.loop-link.kept.now c.loop-link.invariant.outs c.take_pair.ensures.kept
           swept inside c.loop-link.invariant.shown);
-      marked = ap (λ (k : KeptValue). k.marked) c.copy_pair.ensures.value ∙ c.loop-link.invariant.marked;
+      marked = ap (λ (k : KeptValue). k.marked) c.take_pair.ensures.value ∙ c.loop-link.invariant.marked;
     }
 
 pub loop-sweep-preserved : goal.loop-sweep-preserved

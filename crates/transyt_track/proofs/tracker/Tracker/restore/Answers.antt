@@ -1,11 +1,11 @@
 -- The rows are those of the marked network.
 use Rattle.std.proofs.Common.{IsSome, sym, subst}
-use Rattle.transyt_track.specs.Tracker.{TrackerValue}
+use Rattle.transyt_track.specs.Tracker.{TrackerValue, AreOfMark}
 use Rattle.transyt_track.proofs.TrackLaws.{open_mark, closed_tracks}
 use Rattle.transyt_track.proofs.tracker.Tracker.restore.Goals as goal
 
-pub go_back-requires-clause-marked : goal.go_back-requires-clause-marked
-go_back-requires-clause-marked c =
+pub restore-requires : goal.restore-requires
+restore-requires c =
     open_mark c.self.inside.front.kept.marked c.self.inside.marked
     (subst (λ (t : TrackerValue). IsSome t.mark) (sym c.self.view_is) c.requires)
 
@@ -13,6 +13,7 @@ pub invariant_of-self : goal.invariant_of-self
 invariant_of-self c =
     let i = c.self.inside in
     let was = c.self.invariant in
+    let rows = subst (AreOfMark i.marked) c.restore.ensures.rows was.back in
     rw (c.swap.ensures.x_after, c.swap.ensures.y_after)
-    (closed_tracks i.net i.marked i.front i.places.items was i.marked i.net was.shape (sym was.shape)
-    c.go_back.new.kept c.go_back.ensures.rows c.go_back.ensures.closed)
+    (closed_tracks i.net i.marked i.front i.places.items was i.marked i.net was.shape (sym was.shape) c.restore.new.self
+    rows c.restore.ensures.marked)
