@@ -6,7 +6,7 @@ use Rattle.transyt_io.specs.declared.reader.ReadStop.{ReadStop}
 use Rattle.transyt_io.specs.declared.reader.ReadStop.TheVariants.{Fault, TooLong as Long}
 use Rattle.transyt_io.specs.Streams.{Takes, IsAtEnd, StopTakes, Rose}
 use Rattle.transyt_io.proofs.Told.{adds_nothing}
-use Rattle.transyt_outcome.specs.Outcome.{Outcome, IsWritten, Reporting, Row, TextRow}
+use Rattle.transyt_outcome.specs.Outcome.{Outcome, IsWritten, Reporting, StatusSays, StatusSaysOfText}
 use Rattle.transyt_outcome.specs.declared.status.Status.{Status}
 use Rattle.transyt_outcome.specs.declared.status.Status.TheVariants.{Done, DeckRefused, ReadFault, WriteFault, NoMemory}
 use Rattle.transyt_outcome.specs.declared.status.Status.TheVariants.{TooLong}
@@ -22,8 +22,8 @@ none_before answer (Some n) taken out = record { back = out; parts = refl }
 -- each row of the answer is one of the outcome
 row_of_told : (answer : List ℕ → AnswerValue) (left : Option (List ℕ)) (last : Option ℕ) (taken out : List ℕ)
     (status : Status) → IsAtEnd left → length taken ≤ 4194304
-    → TextRow (answer_text (answer taken)) (answer taken).refused out status
-    → Row (of_whole answer) left last taken out status
+    → StatusSaysOfText (answer_text (answer taken)) (answer taken).refused out status
+    → StatusSays (of_whole answer) left last taken out status
 row_of_told answer left last taken out Done end few row =
     record { out_is = row.0; status = row.1; ended = inl end; few = few }
 row_of_told answer left last taken out DeckRefused end few row =
@@ -75,11 +75,11 @@ rose_after faults remarked faults_new same rose = subst (λ n. Rose n faults_new
 -- nor where a read stopped
 stopped_row : (answer : List ℕ → AnswerValue) (left : Option (List ℕ)) (last : Option ℕ) (taken : List ℕ)
     (stop : ReadStop) (status : Status) → StopTakes taken stop → (stop ≡ Fault → status ≡ ReadFault)
-    → (stop ≡ Long → status ≡ TooLong) → Row (of_whole answer) left last taken [] status
+    → (stop ≡ Long → status ≡ TooLong) → StatusSays (of_whole answer) left last taken [] status
 stopped_row answer left last taken Fault status says fault long =
-    subst (Row (of_whole answer) left last taken []) (sym (fault refl)) (record { out_is = refl; open_yet = refl })
+    subst (StatusSays (of_whole answer) left last taken []) (sym (fault refl)) (record { out_is = refl; open_yet = refl })
 stopped_row answer left last taken Long status says fault long =
-    subst (Row (of_whole answer) left last taken []) (sym (long refl))
+    subst (StatusSays (of_whole answer) left last taken []) (sym (long refl))
     (record { many = says; cut_off = record { out_is = refl; open_yet = refl } })
 
 pub stopped_outcome : (answer : List ℕ → AnswerValue) (left left_new : Option (List ℕ)) (last : Option ℕ)
@@ -121,7 +121,7 @@ no_steps most left left_new taken steps takes = record { taken = taken; takes = 
 pub told_read : (answer : AnswerValue) (written written_new : Option (List ℕ)) (status : Status)
     → Told answer written written_new status → status ≡ ReadFault → ⊥
 told_read answer written written_new status told is =
-    subst (λ s. TextRow (answer_text answer) answer.refused told.out s) is told.row
+    subst (λ s. StatusSaysOfText (answer_text answer) answer.refused told.out s) is told.row
 
 -- a status by which the input wasn't read to its end is silent
 pub unread_silent : (status : Status) → (status ≡ ReadFault) ⊎ (status ≡ TooLong) → IsSilent status

@@ -1,11 +1,11 @@
 -- The table of starts in two parts.
-use Rattle.std.proofs.Common.{◌≡◌, ℕ, zero, suc, ◌+◌, List, [], ◌∷◌, ◌++◌, map, refl, sym, ap, ◌∙◌, arith}
+use Rattle.std.proofs.Common.{◌≡◌, ℕ, zero, suc, ◌+◌, List, [], ◌∷◌, ◌++◌, map, sym, ap, ◌∙◌, arith}
 use Rattle.std.specs.List.{range_with_len}
 use Rattle.std.proofs.lemmas.List.{append-nil, append_assoc}
 use Rattle.std.proofs.lemmas.List.FromFn.{map-range_with_len_more}
 use Rattle.transyt_net.specs.Parts.{Network}
 use Rattle.transyt_climbs.specs.Climbs.{row_of, table}
-use Rattle.transyt_climbs.specs.declared.plans.Planned.TheVariants as plan
+use Rattle.transyt_climbs.specs.declared.networks.NetworkAt.TheVariants as plan
 use Rattle.transyt_variants.specs.Starts.{start_at}
 use Rattle.transyt_words.specs.Plans.{starts}
 

@@ -4,7 +4,7 @@ use Rattle.std.proofs.Common.{refl, sym, ◌∙◌, lit≤, arith}
 use Rattle.std.specs.Fmt.{digits}
 use Rattle.transyt_syntax.specs.declared.code.Code.TheVariants.{Unknown}
 use Rattle.transyt_io.specs.Forms.{filled, form_line, values_text}
-use Rattle.transyt_outcome.specs.Outcome.{IsFront, TextRow}
+use Rattle.transyt_outcome.specs.Outcome.{IsFront, StatusSaysOfText}
 use Rattle.transyt_outcome.specs.WorkedOutcomes.{Each}
 use Rattle.transyt_outcome.specs.declared.status.Status.TheVariants.{Done}
 use Rattle.transyt_words.specs.Answer.{of_whole, answer_text, done, refusal, lines_text, refused_card, with_deck}
@@ -51,7 +51,7 @@ both_are = refl
 front : (bytes back : List ℕ) → bytes ++ back ≡ both_texts → IsFront bytes (answer_text (done two_lines))
 front bytes back parts = record { back = back; parts = parts ∙ sym both_are }
 
-pub rows_told : Each (λ row. TextRow (answer_text row.0) row.0.refused row.1 row.2) told_rows
+pub rows_told : Each (λ row. StatusSaysOfText (answer_text row.0) row.0.refused row.1 row.2) told_rows
 rows_told = (
   (sym both_are, refl),
   (
@@ -68,7 +68,7 @@ short is = let told : first_text ≡ both_texts = is ∙ both_are in grind arith
 other : ¬ IsFront (codes "ENTRY 3") (answer_text (done two_lines))
 other h = let told : codes "ENTRY 3" ++ h.back ≡ both_texts = h.parts ∙ both_are in grind arith
 
-pub rows_untold : Each (λ row. ¬ TextRow (answer_text row.0) row.0.refused row.1 row.2) untold_rows
+pub rows_untold : Each (λ row. ¬ StatusSaysOfText (answer_text row.0) row.0.refused row.1 row.2) untold_rows
 rows_untold = (
   λ h. let refused = h.1 in grind arith,
   (λ h. short h.0, (λ h. let refused = h.1 in grind arith, (other, (λ h. grind arith, (λ h. h, tt))))),

@@ -1,7 +1,7 @@
 -- The answer of a climb that betters its network.
 use Rattle.std.proofs.Common.{◌≡◌, [], ◌∷◌, Some, ap, ◌∙◌}
 use Rattle.transyt_words.specs.Answer.{with_deck}
-use Rattle.transyt_climbs.specs.declared.row.PlanRow.TheVariants as row
+use Rattle.transyt_climbs.specs.declared.row.NetworkRow.TheVariants as row
 use Rattle.transyt_climbs.specs.WorkedClimbs.{junction}
 use Rattle.transyt_climbs.proofs.WorkedRow.{row_is_worked, end_is_worked}
 use Rattle.transyt_words.specs.declared.table.Numbered.TheVariants.{Cycles}

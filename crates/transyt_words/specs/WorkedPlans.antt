@@ -2,8 +2,8 @@
 use Rattle.std.specs.Prelude.{ℕ, ◌+◌, ◌==◌, List, [], ◌∷◌, Some, codes, if◌then◌else◌}
 use Rattle.transyt_parts.specs.Made.{new_stage, new_plan}
 use Rattle.transyt_net.specs.Parts.{Network}
-use Rattle.transyt_climbs.specs.declared.plans.Planned.TheVariants as plan
-use Rattle.transyt_climbs.specs.Climbs.{PlanList}
+use Rattle.transyt_climbs.specs.declared.networks.NetworkAt.TheVariants as plan
+use Rattle.transyt_climbs.specs.Climbs.{NetworkListValue}
 use Rattle.transyt_climb.specs.WorkedTurns.{idle}
 use Rattle.transyt_climbs.specs.WorkedClimbs.{junction}
 use Rattle.transyt_words.specs.Answer.{LineValue, line_of}
@@ -75,11 +75,11 @@ abbrev pub no_cycles : List LineValue
 no_cycles = no_plan 57 ∷ barred 60 21 ∷ no_plan 63 ∷ line_of (codes "* NONE") [] ∷ []
 
 -- two places, of which the second has a junction that a climb betters
-abbrev pub two_plans : PlanList
+abbrev pub two_plans : NetworkListValue
 two_plans = record {
   count = 2;
   number = λ place. 17 + place;
-  planned = λ net place. if place == 0 then plan.NoPlan else plan.Plan (junction 16);
+  network = λ net place. if place == 0 then plan.NoPlan else plan.Plan (junction 16);
 }
 
 -- their lines

@@ -5,7 +5,7 @@ use Rattle.transyt_net.specs.declared.edit.Edit.TheVariants.{Entry, Part}
 use Rattle.transyt_equisat.specs.Balance.{GreensValue}
 use Rattle.transyt_audit.specs.declared.verdict.Verdict.TheVariants.{Yes, No}
 use Rattle.transyt_climbs.specs.declared.row.Climbed.{Climbed}
-use Rattle.transyt_climbs.specs.declared.row.PlanRow.TheVariants as row
+use Rattle.transyt_climbs.specs.declared.row.NetworkRow.TheVariants as row
 use Rattle.transyt_climbs.specs.declared.scan_row.ScanRow.{ScanRow}
 use Rattle.transyt_words.specs.declared.table.Numbered.TheVariants.{Starts, Cycles}
 use Rattle.transyt_words.specs.Answer.{LineValue, refused_card}

@@ -1,15 +1,15 @@
 //! The word `cycles`.
 
 ghost use Rattle.std.specs.Prelude.{◌≡◌};
-ghost use Rattle.transyt_words.specs.Plans.{planned_of};
+ghost use Rattle.transyt_words.specs.Plans.{network_at};
 
 use crate::answer::Answer;
 use crate::deck_word::{DeckWord, Host};
-use crate::table::{Numbered, TableWord, answer_net};
+use crate::table::{Numbered, TableList, answer_net};
 use std::alloc::{AllocError, Global};
 use std::sync::ledger::Ledger;
 use std::thread::Threads;
-use transyt_climbs::{Planned, Plans, ScanWord};
+use transyt_climbs::{NetworkAt, NetworkList, ScanList, ScanWord};
 use transyt_deck::Cut;
 use transyt_io::Sink;
 use transyt_net::Net;
@@ -24,43 +24,46 @@ pub struct CyclesWord {
 }
 
 /// The network of a cycle time to climb on, or the reason why there is none.
-fn planned_of(at: AtCycle) -> Planned
-    ensures { result ≡ planned_of at }
+fn network_at(at: AtCycle) -> NetworkAt
+    ensures { result ≡ network_at at }
 {
     match at {
-        AtCycle::Plan(net) => Planned::Plan(net),
-        AtCycle::Barred { node } => Planned::Barred { node },
-        AtCycle::NoPlan => Planned::NoPlan,
+        AtCycle::Plan(net) => NetworkAt::Plan(net),
+        AtCycle::Barred { node } => NetworkAt::Barred { node },
+        AtCycle::NoPlan => NetworkAt::NoPlan,
     }
 }
 
-impl Plans for CyclesWord {
-    ghost use Rattle.transyt_climbs.specs.Scan.{IsScan};
+/// The networks of cycle times that may be asked for.
+#[derive(Clone, Copy, Drop)]
+struct CyclesList {
+    scan: ScanList,
+}
+
+impl NetworkList for CyclesList {
     ghost use Rattle.transyt_words.specs.Plans.{cycles};
 
-    ghost fits = { λ self. IsScan self.asked };
-
-    ghost list = { λ self. cycles self.asked.times };
+    ghost list = { λ self. cycles self.scan.asked.times };
 
     fn workers(&self) -> usize {
-        self.asked.workers as usize
+        self.scan.workers()
     }
 
     fn count(&self) -> usize {
-        self.asked.times.count()
+        self.scan.count()
     }
 
     fn number(&self, place: usize) -> u32 {
-        self.asked.times.at(place)
+        self.scan.number(place)
     }
 
-    fn plan(&self, alloc: Global, net: &Net, place: usize) -> Result<Planned, AllocError> {
-        let at = cycle_net(alloc, net, self.asked.times.at(place))?;
-        Ok(planned_of(at))
+    fn network(&self, alloc: Global, net: &Net, place: usize) -> Result<NetworkAt, AllocError> {
+        let at = cycle_net(alloc, net, self.scan.asked.times.at(place))?;
+        Ok(network_at(at))
     }
 }
 
-impl TableWord for CyclesWord {
+impl TableList for CyclesList {
     ghost use Rattle.transyt_words.specs.declared.table.Numbered.TheVariants.{Cycles};
 
     ghost kind = { λ self. Cycles };
@@ -88,6 +91,7 @@ impl DeckWord for CyclesWord {
         sink: &mut K,
         _steps: &mut Steps<L>,
     ) -> Result<Answer, AllocError> {
-        answer_net(host, self, &cut.net, sink)
+        let scan = ScanList { asked: self.asked };
+        answer_net(host, &CyclesList { scan }, &cut.net, sink)
     }
 }

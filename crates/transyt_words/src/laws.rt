@@ -3,7 +3,7 @@
 ghost use Rattle.std.specs.Prelude.{◌≡◌, ℕ, ◌+◌, ◌*◌, ◌++◌, ◌∷◌, [], codes, length, map, None, Some, true};
 ghost use Rattle.transyt_syntax.specs.declared.code.Code.{Code};
 ghost use Rattle.transyt_net.specs.WorkedNets.{town};
-ghost use Rattle.transyt_outcome.specs.Outcome.{TextRow};
+ghost use Rattle.transyt_outcome.specs.Outcome.{StatusSaysOfText};
 ghost use Rattle.transyt_outcome.specs.WorkedOutcomes.{Each};
 ghost use Rattle.transyt_outcome.specs.declared.status.Status.{Status};
 ghost use Rattle.transyt_equisat.specs.WorkedBalances.{worked_town};
@@ -55,8 +55,8 @@ pub fn worked_texts()
 /// that it doesn't. With three statuses nothing was written.
 #[tactic(auto, using(crate::proofs::Worked::rows_told, crate::proofs::Worked::rows_untold, crate::proofs::Worked::told, crate::proofs::Worked::told_over))]
 pub fn worked_told()
-    ensures rows { Each (λ row. TextRow (answer_text row.0) row.0.refused row.1 row.2) told_rows }
-    ensures no_rows { Each (λ row. ¬ TextRow (answer_text row.0) row.0.refused row.1 row.2)
+    ensures rows { Each (λ row. StatusSaysOfText (answer_text row.0) row.0.refused row.1 row.2) told_rows }
+    ensures no_rows { Each (λ row. ¬ StatusSaysOfText (answer_text row.0) row.0.refused row.1 row.2)
         untold_rows }
     ensures told { Told (done two_lines) (Some (codes "x")) (Some (codes "x" ++ both_texts))
         Status.Done }

@@ -9,7 +9,7 @@ use crate::line::AnswerLine;
 use std::alloc::{AllocError, Global};
 use std::sync::ledger::Ledger;
 use std::thread::Threads;
-use transyt_climbs::{IdleBench, ScanRow, ScanWord, Work, least, scan_told};
+use transyt_climbs::{IdleGate, ScanList, ScanRow, ScanWord, Work, least, scan_told};
 use transyt_deck::Cut;
 use transyt_io::Sink;
 use transyt_sentences::on_cycle_times;
@@ -72,9 +72,9 @@ impl DeckWord for ScanWord {
     ) -> Result<Answer, AllocError> {
         let work = Work {
             alloc: host.alloc,
-            asked: self,
+            asked: &ScanList { asked: *self },
             net: &cut.net,
-            bench: &IdleBench,
+            gate: &IdleGate,
         };
         let rows = scan_told(host.rt, &work, sink)?;
         let lines = table_lines(host.alloc, &rows)?;

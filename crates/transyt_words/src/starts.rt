@@ -5,11 +5,11 @@ ghost use Rattle.transyt_words.specs.Plans.{IsStarts, starts_of};
 
 use crate::answer::Answer;
 use crate::deck_word::{DeckWord, Host};
-use crate::table::{Numbered, TableWord, answer_net};
+use crate::table::{Numbered, TableList, answer_net};
 use std::alloc::{AllocError, Global};
 use std::sync::ledger::Ledger;
 use std::thread::Threads;
-use transyt_climbs::{Planned, Plans};
+use transyt_climbs::{NetworkAt, NetworkList};
 use transyt_deck::Cut;
 use transyt_io::Sink;
 use transyt_net::Net;
@@ -50,33 +50,38 @@ impl StartsWord {
     }
 }
 
-impl Plans for StartsWord {
-    ghost use Rattle.transyt_words.specs.Plans.{IsStarts, starts};
+/// The networks of starts that may be asked for.
+#[derive(Clone, Copy, Drop)]
+struct StartsList {
+    asked: StartsWord,
+    ghost within: { IsStarts asked },
+}
 
-    ghost fits = { IsStarts };
+impl NetworkList for StartsList {
+    ghost use Rattle.transyt_words.specs.Plans.{starts};
 
-    ghost list = { λ self. starts self.seed self.count self.from };
+    ghost list = { λ self. starts self.asked.seed self.asked.count self.asked.from };
 
     fn workers(&self) -> usize {
-        self.workers as usize
+        self.asked.workers as usize
     }
 
     fn count(&self) -> usize {
-        self.count as usize
+        self.asked.count as usize
     }
 
     fn number(&self, place: usize) -> u32 {
-        self.from + place as u32
+        self.asked.from + place as u32
     }
 
-    fn plan(&self, alloc: Global, net: &Net, place: usize) -> Result<Planned, AllocError> {
-        let number = self.from as usize + place;
-        let start = start_net(alloc, net, self.seed, number)?;
-        Ok(Planned::Plan(start))
+    fn network(&self, alloc: Global, net: &Net, place: usize) -> Result<NetworkAt, AllocError> {
+        let number = self.asked.from as usize + place;
+        let start = start_net(alloc, net, self.asked.seed, number)?;
+        Ok(NetworkAt::Plan(start))
     }
 }
 
-impl TableWord for StartsWord {
+impl TableList for StartsList {
     ghost use Rattle.transyt_words.specs.declared.table.Numbered.TheVariants.{Starts};
 
     ghost kind = { λ self. Starts };
@@ -103,6 +108,6 @@ impl DeckWord for StartsWord {
         sink: &mut K,
         _steps: &mut Steps<L>,
     ) -> Result<Answer, AllocError> {
-        answer_net(host, self, &cut.net, sink)
+        answer_net(host, &StartsList { asked: *self }, &cut.net, sink)
     }
 }

@@ -11,7 +11,7 @@ use crate::line::AnswerLine;
 use std::alloc::{AllocError, Global};
 use std::thread::Threads;
 use transyt_climbs::{
-    BestRow, Climbed, IdleBench, PlanRow, Plans, Work, best, climb_plans, end_at,
+    BestRow, Climbed, IdleGate, NetworkList, NetworkRow, Work, best, climb_networks,
 };
 use transyt_io::Sink;
 use transyt_net::Net;
@@ -25,8 +25,8 @@ pub enum Numbered {
     Cycles,
 }
 
-/// Plans whose table is written.
-pub trait TableWord: Plans {
+/// A list of networks whose table is written.
+pub trait TableList: NetworkList {
     /// The numbers of the rows.
     ghost kind: { Self → Numbered };
 
@@ -63,16 +63,18 @@ fn climbed_line(by: Numbered, row: Climbed) -> AnswerLine
 }
 
 /// The line of a row.
-fn row_line(by: Numbered, row: PlanRow) -> AnswerLine
+fn row_line(by: Numbered, row: NetworkRow) -> AnswerLine
     ensures { result ≡ row_line by row }
 {
     match row {
-        PlanRow::NoPlan { number } => { AnswerLine::new(b"* CYCLE # NONE", &[u128::from(number)]) }
-        PlanRow::Barred { number, node } => {
+        NetworkRow::NoPlan { number } => {
+            AnswerLine::new(b"* CYCLE # NONE", &[u128::from(number)])
+        }
+        NetworkRow::Barred { number, node } => {
             let numbers = [u128::from(number), u128::from(node)];
             AnswerLine::new(b"* CYCLE # BARRED #", &numbers)
         }
-        PlanRow::Climbed(climbed) => climbed_line(by, climbed),
+        NetworkRow::Climbed(climbed) => climbed_line(by, climbed),
     }
 }
 
@@ -87,7 +89,11 @@ fn best_line(best: Option<BestRow>) -> AnswerLine
 }
 
 /// The lines of a table: each row, and then the best.
-fn table_lines(alloc: Global, by: Numbered, rows: &[PlanRow]) -> Result<Vec<AnswerLine>, AllocError>
+fn table_lines(
+    alloc: Global,
+    by: Numbered,
+    rows: &[NetworkRow],
+) -> Result<Vec<AnswerLine>, AllocError>
     ensures { IfOk result (λ lines. lines.items ≡ table_lines by rows.now) }
 {
     let mut lines = Vec::new(alloc);
@@ -113,33 +119,30 @@ fn read_back(made: Option<Net>) -> Option<Net>
 }
 
 /// The network at the end of the climb of the best row, if there is a best row.
-fn deck_of<P: Plans>(
-    alloc: Global,
-    asked: &P,
-    net: &Net,
+fn deck_of<P: NetworkList>(
+    work: &Work<'_, P, IdleGate>,
     best: Option<BestRow>,
 ) -> Result<Option<Net>, AllocError>
-    requires fits { P.fits asked.now }
-    requires within { IfSome best (λ b. b.place < (P.list asked.now).count) }
-    ensures deck { IfOk result (λ deck. deck ≡ deck_of (P.list asked.now) net.now best) }
+    requires { IfSome best (λ b. b.place < (P.list work.now.asked.now).count) }
+    ensures deck { IfOk result (λ deck. deck
+        ≡ deck_of (P.list work.now.asked.now) work.now.net.now best) }
     ensures reads_back { IfOk result DeckReadsBack }
 {
     let Some(best) = best else {
         return Ok(None);
     };
-    let end = end_at(alloc, asked, net, best.place)?;
+    let end = work.end_at(best.place)?;
     Ok(read_back(end))
 }
 
 /// The answer to a network: the lines of its table, and the deck text of the network at the end of the best climb. The
 /// sink is told how far the climbs are.
-pub(crate) fn answer_net<R: Threads + Sync, W: TableWord, K: Sink>(
+pub(crate) fn answer_net<R: Threads + Sync, W: TableList, K: Sink>(
     host: Host<'_, R>,
     asked: &W,
     net: &Net,
     sink: &mut K,
 ) -> Result<Answer, AllocError>
-    requires { W.fits asked.now }
     ensures answer { IfOk result
         (λ found. found ≡ plans_answer (W.kind asked.now) (W.list asked.now) net.now) }
     ensures reads_back { IfOk result ReadsBack }
@@ -151,10 +154,10 @@ pub(crate) fn answer_net<R: Threads + Sync, W: TableWord, K: Sink>(
         alloc,
         asked,
         net,
-        bench: &IdleBench,
+        gate: &IdleGate,
     };
-    let rows = climb_plans(host.rt, &work, sink)?;
+    let rows = climb_networks(host.rt, &work, sink)?;
     let lines = table_lines(alloc, asked.numbered(), &rows)?;
-    let deck = deck_of(alloc, asked, net, best(&rows))?;
+    let deck = deck_of(&work, best(&rows))?;
     Ok(Answer::with_deck(lines, deck))
 }
