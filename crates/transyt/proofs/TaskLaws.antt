@@ -5,7 +5,7 @@ use Rattle.std.specs.Option.{option_map}
 use Rattle.transyt_io.specs.Streams.{Adds}
 use Rattle.transyt_outcome.specs.declared.status.Status.{Status}
 use Rattle.transyt_outcome.specs.declared.status.Status.TheVariants.{Done, DeckRefused, ReadFault, WriteFault, NoMemory}
-use Rattle.transyt_outcome.specs.Outcome.{IsSettled, TextRow}
+use Rattle.transyt_outcome.specs.Outcome.{IsSettled, StatusSaysOfText}
 use Rattle.transyt_outcome.proofs.Head.{headline, complete, too_long_where}
 use Rattle.transyt_outcome.proofs.MoreBytes.{lines_settled}
 use Rattle.transyt_line_answers.specs.Report.{deck_answering, report, status}
@@ -36,7 +36,7 @@ word_settled _ = record {
 }
 
 -- a text with no fault and no want of memory was written
-text_done : (text out : List ℕ) (status : Status) → TextRow text false out status → status ≢ NoMemory
+text_done : (text out : List ℕ) (status : Status) → StatusSaysOfText text false out status → status ≢ NoMemory
     → (status ≡ WriteFault → ⊥) → (out ≡ text) × (status ≡ Done)
 text_done text out Done row memory no_write = (row.0, refl)
 text_done text out DeckRefused row memory no_write = let is : false ≡ true = row.1 in absurd (cc)

@@ -2,22 +2,22 @@
 use Rattle.std.proofs.Common.{◌≡◌, ℕ, ◌<◌, false, List, [], ◌∷◌, Option, None, Some, length, refl, arith}
 use Rattle.transyt_net.specs.Parts.{Network}
 use Rattle.transyt_outcome.specs.declared.status.Status.TheVariants.{Done, DeckRefused, WriteFault, TooLong}
-use Rattle.transyt_outcome.specs.Outcome.{TextRow}
+use Rattle.transyt_outcome.specs.Outcome.{StatusSaysOfText}
 use Rattle.transyt_words.specs.Answer.{of_whole, done}
 use Rattle.transyt.specs.Reports.{Descends}
 use Rattle.transyt.specs.Tasks.{Reads, Writes, TaskHeadline, TaskComplete, TaskTooLong}
 
 -- a text is written whole, or a front of it and the sink failed
-pub text_whole : TextRow (5 ∷ 7 ∷ []) false (5 ∷ 7 ∷ []) Done
+pub text_whole : StatusSaysOfText (5 ∷ 7 ∷ []) false (5 ∷ 7 ∷ []) Done
 text_whole = (refl, refl)
 
-pub text_cut : TextRow (5 ∷ 7 ∷ []) false (5 ∷ []) Done → ⊥
+pub text_cut : StatusSaysOfText (5 ∷ 7 ∷ []) false (5 ∷ []) Done → ⊥
 text_cut is = let parts : ◌≡◌ {A = List ℕ} (5 ∷ []) (5 ∷ 7 ∷ []) = is.0 in grind arith
 
-pub text_front : TextRow (5 ∷ 7 ∷ []) false (5 ∷ []) WriteFault
+pub text_front : StatusSaysOfText (5 ∷ 7 ∷ []) false (5 ∷ []) WriteFault
 text_front = record { back = 7 ∷ []; parts = refl }
 
-pub text_other : TextRow (5 ∷ 7 ∷ []) false (7 ∷ []) WriteFault → ⊥
+pub text_other : StatusSaysOfText (5 ∷ 7 ∷ []) false (7 ∷ []) WriteFault → ⊥
 text_other is = let parts : 7 ∷ is.back ≡ 5 ∷ 7 ∷ [] = is.parts in grind arith
 
 -- a text stands after the bytes that were held

@@ -1,7 +1,7 @@
 //! Laws about the definitions.
 ghost use Rattle.std.specs.Prelude.{◌≡◌, ◌<◌, ℕ, List, [], ◌∷◌, Option, None, Some, All, false, length, map};
 ghost use Rattle.transyt_make.specs.Made.{made};
-ghost use Rattle.transyt_outcome.specs.Outcome.{TextRow};
+ghost use Rattle.transyt_outcome.specs.Outcome.{StatusSaysOfText};
 ghost use Rattle.transyt_outcome.specs.Runs.{StepsTaken};
 ghost use Rattle.transyt_outcome.specs.declared.status.Status.{Status};
 ghost use Rattle.transyt_reporter.specs.Brief.{brief_steps};
@@ -48,10 +48,10 @@ pub fn worked_steps()
 /// The meaning of a status for a text, an input of too many bytes and a climb: cases that hold, and cases that don't.
 #[tactic(auto, using(crate::proofs::WorkedTasks::text_whole, crate::proofs::WorkedTasks::text_cut, crate::proofs::WorkedTasks::text_front, crate::proofs::WorkedTasks::text_other, crate::proofs::WorkedTasks::headline_after, crate::proofs::WorkedTasks::headline_over, crate::proofs::WorkedTasks::text_complete, crate::proofs::WorkedTasks::text_refused, crate::proofs::WorkedTasks::many_bytes, crate::proofs::WorkedTasks::many_done, crate::proofs::WorkedTasks::no_looks, crate::proofs::WorkedTasks::too_few_looks))]
 pub fn worked_tasks()
-    ensures whole { TextRow (5 ∷ 7 ∷ []) false (5 ∷ 7 ∷ []) Status.Done }
-    ensures cut { TextRow (5 ∷ 7 ∷ []) false (5 ∷ []) Status.Done → ⊥ }
-    ensures front { TextRow (5 ∷ 7 ∷ []) false (5 ∷ []) Status.WriteFault }
-    ensures other { TextRow (5 ∷ 7 ∷ []) false (7 ∷ []) Status.WriteFault → ⊥ }
+    ensures whole { StatusSaysOfText (5 ∷ 7 ∷ []) false (5 ∷ 7 ∷ []) Status.Done }
+    ensures cut { StatusSaysOfText (5 ∷ 7 ∷ []) false (5 ∷ []) Status.Done → ⊥ }
+    ensures front { StatusSaysOfText (5 ∷ 7 ∷ []) false (5 ∷ []) Status.WriteFault }
+    ensures other { StatusSaysOfText (5 ∷ 7 ∷ []) false (7 ∷ []) Status.WriteFault → ⊥ }
     ensures after { TaskHeadline (Writes (5 ∷ 7 ∷ [])) None (Some (9 ∷ [])) (Some (9 ∷ 5 ∷ 7 ∷ []))
         Status.Done }
     ensures over { TaskHeadline (Writes (5 ∷ 7 ∷ [])) None (Some (9 ∷ [])) (Some (5 ∷ 7 ∷ []))

@@ -7,7 +7,7 @@ use Rattle.transyt_io.specs.Streams.{Takes, Adds, IsAtEnd}
 use Rattle.transyt_outcome.specs.declared.status.Status.{Status}
 use Rattle.transyt_outcome.specs.declared.status.Status.TheVariants.{Done, DeckRefused, ReadFault, TooLong, WriteFault}
 use Rattle.transyt_outcome.specs.declared.status.Status.TheVariants.{NoMemory, BadWords}
-use Rattle.transyt_outcome.specs.Outcome.{Reporting, IsSettled, status_by, EndsRun, Finished, Row, Outcome}
+use Rattle.transyt_outcome.specs.Outcome.{Reporting, IsSettled, status_by, EndsRun, Finished, StatusSays, Outcome}
 use Rattle.transyt_outcome.specs.Outcome.{Headline, Complete, TooLongWhere}
 
 -- the bytes taken of a told input
@@ -69,7 +69,7 @@ module _ (by : Reporting) (settled : IsSettled by) (input taken out : List ℕ) 
       ]
 
   -- the text and the status of an input that isn't too long
-  told : (status : Status) → Row by left last taken out status → length input ≤ 4194304 → status ≢ NoMemory
+  told : (status : Status) → StatusSays by left last taken out status → length input ≤ 4194304 → status ≢ NoMemory
       → (status ≡ ReadFault → ⊥) → (status ≡ WriteFault → ⊥)
       → (out ≡ by.report input) × (status ≡ status_by by input)
   told Done row few n r w =
@@ -83,7 +83,7 @@ module _ (by : Reporting) (settled : IsSettled by) (input taken out : List ℕ) 
   told BadWords row few n r w = absurd row
 
   -- the status of one that is
-  long_told : (status : Status) → Row by left last taken out status → 4194304 < length input
+  long_told : (status : Status) → StatusSays by left last taken out status → 4194304 < length input
       → by.ends (take 4194304 input) ≡ None → status ≢ NoMemory
       → (status ≡ ReadFault → ⊥) → (status ≡ WriteFault → ⊥) → status ≡ TooLong
   long_told Done row many open_yet n r w = absurd (not_finished false row many open_yet)

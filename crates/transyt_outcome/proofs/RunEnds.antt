@@ -11,7 +11,7 @@ use Rattle.transyt_outcome.specs.declared.status.Status.TheVariants.{Done, DeckR
 use Rattle.transyt_outcome.specs.Ends.{Ends, FaultRose}
 use Rattle.transyt_outcome.specs.Runs.{Answering, RunAnswers, of_lines, answers_by}
 use Rattle.transyt_outcome.specs.Runs.{steps_all, StepsSaid}
-use Rattle.transyt_outcome.specs.Outcome.{Finished, IsWritten, Row, status_if}
+use Rattle.transyt_outcome.specs.Outcome.{Finished, IsWritten, StatusSays, status_if}
 use Rattle.transyt_outcome.specs.RunSoFar.{RunSoFar, RunOutcome}
 use Rattle.transyt_outcome.proofs.Written.{written_next}
 
@@ -67,7 +67,7 @@ module _ {State : Type 0} {by : Answering State} {state : State} {count : ℕ} {
 
     -- a run that ended with a status that is known
     pub ran : (out : List ℕ) {steps_new : ℕ} (known : Status) {status : Status} → status ≡ known
-        → Adds old.written new.written out → Row (of_lines by) new.left new.last taken_by out known
+        → Adds old.written new.written out → StatusSays (of_lines by) new.left new.last taken_by out known
         → (counted ≡ true → StepsSaid by new.left taken_by steps steps_new known) → FaultRose now new known
         → RunOutcome by counted old new steps steps_new status
     ran out {steps_new} known is adds row says fault =

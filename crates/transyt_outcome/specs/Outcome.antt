@@ -74,14 +74,14 @@ IsWritten by last taken out =
 
 -- the meaning of a status: the bytes taken and those written; `left` and `last` are what the source tells afterwards:
 -- the bytes that it has left, and how many the last read gave
-abbrev pub Row : Reporting → Option (List ℕ) → Option ℕ → List ℕ → List ℕ → Status → Type 0
-Row by left last taken out s.Done = Finished by left taken out false
-Row by left last taken out s.DeckRefused = Finished by left taken out true
-Row by left last taken out s.ReadFault = CutOff by taken out
-Row by left last taken out s.TooLong = TooMany by taken out
-Row by left last taken out s.WriteFault = IsPart by left taken out × IsWritten by last taken out
-Row by left last taken out s.NoMemory = out ≡ []
-Row by left last taken out s.BadWords = ⊥
+abbrev pub StatusSays : Reporting → Option (List ℕ) → Option ℕ → List ℕ → List ℕ → Status → Type 0
+StatusSays by left last taken out s.Done = Finished by left taken out false
+StatusSays by left last taken out s.DeckRefused = Finished by left taken out true
+StatusSays by left last taken out s.ReadFault = CutOff by taken out
+StatusSays by left last taken out s.TooLong = TooMany by taken out
+StatusSays by left last taken out s.WriteFault = IsPart by left taken out × IsWritten by last taken out
+StatusSays by left last taken out s.NoMemory = out ≡ []
+StatusSays by left last taken out s.BadWords = ⊥
 
 -- the outcome of a run: the bytes that it took, those that it wrote, and what its status says of both
 pub record Outcome (by : Reporting) (left left_new : Option (List ℕ)) (last_new : Option ℕ)
@@ -90,22 +90,22 @@ pub record Outcome (by : Reporting) (left left_new : Option (List ℕ)) (last_ne
   pub out : List ℕ
   pub takes : Takes left left_new taken
   pub adds : Adds written written_new out
-  pub row : Row by left_new last_new taken out status
+  pub row : StatusSays by left_new last_new taken out status
 
 -- the meaning of a status for the bytes written of a text, and for whether the text is a refusal
-abbrev pub TextRow : List ℕ → Bool → List ℕ → Status → Type 0
-TextRow text refused out s.Done = (out ≡ text) × (refused ≡ false)
-TextRow text refused out s.DeckRefused = (out ≡ text) × (refused ≡ true)
-TextRow text refused out s.WriteFault = IsFront out text
-TextRow text refused out s.NoMemory = out ≡ []
-TextRow text refused out _ = ⊥
+abbrev pub StatusSaysOfText : List ℕ → Bool → List ℕ → Status → Type 0
+StatusSaysOfText text refused out s.Done = (out ≡ text) × (refused ≡ false)
+StatusSaysOfText text refused out s.DeckRefused = (out ≡ text) × (refused ≡ true)
+StatusSaysOfText text refused out s.WriteFault = IsFront out text
+StatusSaysOfText text refused out s.NoMemory = out ≡ []
+StatusSaysOfText text refused out _ = ⊥
 
 -- the outcome of writing a text: the bytes written, and what the status says of them
 pub record TextOutcome (text : List ℕ) (refused : Bool) (written written_new : Option (List ℕ))
     (status : Status) : Type 0 where
   pub out : List ℕ
   pub adds : Adds written written_new out
-  pub row : TextRow text refused out status
+  pub row : StatusSaysOfText text refused out status
 
 -- bytes after those that end the run change nothing
 pub record IsSettled (by : Reporting) : Type 0 where

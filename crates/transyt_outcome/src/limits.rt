@@ -1,6 +1,6 @@
 //! Laws about what is claimed of an input, and about runs at the limit of 4,194,304 bytes.
 ghost use Rattle.std.specs.Prelude.{◌≡◌, ◌++◌, ◌∷◌, ℕ, List, [], None, Some, codes, length};
-ghost use Rattle.transyt_outcome.specs.Outcome.{Complete, Headline, IsSettled, Row, TooLongWhere};
+ghost use Rattle.transyt_outcome.specs.Outcome.{Complete, Headline, IsSettled, StatusSays, TooLongWhere};
 ghost use Rattle.transyt_outcome.specs.Runs.{StepsSaid, of_lines};
 ghost use Rattle.transyt_outcome.specs.WorkedLimits.{fault_rows, no_fault_rows, no_step_rows, refused_lines, step_rows};
 ghost use Rattle.transyt_outcome.specs.WorkedLimits.{tally};
@@ -10,8 +10,8 @@ ghost use Rattle.transyt_outcome.specs.declared.status.Status.{Status};
 /// Runs end with a fault, and take steps, as it is written beside the definitions, and not as it is written there that
 /// they don't.
 pub fn worked_faults()
-    ensures rows { Each (λ row. Row (of_lines echo) row.0 row.1 row.2 row.3 row.4) fault_rows }
-    ensures no_rows { Each (λ row. ¬ Row (of_lines echo) row.0 row.1 row.2 row.3 row.4)
+    ensures rows { Each (λ row. StatusSays (of_lines echo) row.0 row.1 row.2 row.3 row.4) fault_rows }
+    ensures no_rows { Each (λ row. ¬ StatusSays (of_lines echo) row.0 row.1 row.2 row.3 row.4)
         no_fault_rows }
     ensures steps { Each (λ row. StepsSaid echo (Some (codes "f")) row.0 7 row.1 row.2) step_rows }
     ensures no_steps { Each (λ row. ¬ StepsSaid echo (Some (codes "f")) row.0 7 row.1 row.2)
@@ -39,13 +39,13 @@ pub fn worked_claims()
 /// is claimed from one more on, where the bytes before don't end the run.
 pub fn worked_limits()
     ensures long { (bytes : List ℕ) → length bytes ≡ 4194305
-        → Row (tally 4194305) (Some (9 ∷ [])) (Some 1) bytes (4194304 ∷ []) Status.TooLong }
+        → StatusSays (tally 4194305) (Some (9 ∷ [])) (Some 1) bytes (4194304 ∷ []) Status.TooLong }
     ensures not_long { (bytes : List ℕ) → length bytes ≡ 4194304
-        → ¬ Row (tally 5) (Some (9 ∷ [])) (Some 1) bytes (4194304 ∷ []) Status.TooLong }
+        → ¬ StatusSays (tally 5) (Some (9 ∷ [])) (Some 1) bytes (4194304 ∷ []) Status.TooLong }
     ensures other_text { (bytes : List ℕ) → length bytes ≡ 4194305
-        → ¬ Row (tally 5) (Some (9 ∷ [])) (Some 1) bytes (4194305 ∷ []) Status.TooLong }
+        → ¬ StatusSays (tally 5) (Some (9 ∷ [])) (Some 1) bytes (4194305 ∷ []) Status.TooLong }
     ensures ended { (bytes : List ℕ) → length bytes ≡ 4194305
-        → ¬ Row (tally 4194304) (Some (9 ∷ [])) (Some 1) bytes (4194304 ∷ []) Status.TooLong }
+        → ¬ StatusSays (tally 4194304) (Some (9 ∷ [])) (Some 1) bytes (4194304 ∷ []) Status.TooLong }
     ensures headline { (bytes : List ℕ) → length bytes ≡ 4194304
         → ¬ Headline (tally 5) (Some bytes) (Some (3 ∷ [])) (Some (3 ∷ [])) Status.Done }
     ensures headline_over { (bytes : List ℕ) → length bytes ≡ 4194305
