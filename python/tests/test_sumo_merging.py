@@ -4,12 +4,13 @@ import os
 import shutil
 import tempfile
 import unittest
+from dataclasses import replace
 
 import support  # noqa: F401
 from transyt.deck import Deck, read_deck
 from transyt.sumo.drive import Measures, Run, drive, put_signals, write_signals
 from transyt.sumo.giving import as_drawn
-from transyt.sumo.merging import bits_of, merging_with
+from transyt.sumo.merging import UNREGULATED, bits_of, merging_with
 from transyt.sumo.netfile import Connection, read_root
 from transyt.sumo.network import Net, build
 from transyt.sumo.plans import write_all_cars
@@ -80,9 +81,17 @@ class Driven(unittest.TestCase):
         kinds = [self.net.file.junctions[name].kind for name in ("node1", "node2")]
         self.assertEqual(kinds, ["traffic_light", "traffic_light_unregulated"])
 
+    def test_ways_of_different_stages_are_left(self) -> None:
+        """One of the two merging links in the other stage: the network is as netconvert made it."""
+        net = build(read_deck(DECK.replace("LINK 12 1 450 1800 1 1 0 0 1", "LINK 12 1 450 1800 1 1 0 0 2")),
+                    self.folder)
+        self.assertEqual({net.file.junctions[name].kind for name in ("node1", "node2")}, {UNREGULATED})
+
     def test_nobody_waits_within_the_junction(self) -> None:
-        """On ways that cross; but junction 4 of the arterial, where a link gives way, is netconvert's."""
-        build(as_drawn(read_deck(support.example("arterial.deck")), lambda _: None), self.folder)
+        """On ways that cross; at the junction of the arterial where a link gives way netconvert's stay."""
+        deck = as_drawn(read_deck(support.example("arterial.deck")), lambda _: None)
+        links = tuple(replace(link, stages=(1, 2)) for link in deck.links)
+        build(replace(deck, links=links), self.folder)
         root = read_root(os.path.join(self.folder, "town.net.xml"))
         inside = {one.get("id", ""): (one.get("incLanes", "").count(" "), one.get("intLanes"))
                   for one in root.iterfind("junction") if one.get("type") == "internal"}

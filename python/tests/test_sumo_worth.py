@@ -6,6 +6,7 @@ import sys
 import unittest
 import xml.etree.ElementTree as ElementTree
 from types import ModuleType
+from typing import List
 
 import support
 from support import ROOT, needs_program
@@ -73,6 +74,44 @@ class Worth(unittest.TestCase):
         self.assertEqual(lines[0], f"{head} the deck's offsets | 5.00 | 15.00 |  |  |")
         self.assertEqual(lines[1], f"{head} `tlsCoordinator` | - | 16.50 | -10.0 | -10.0 to -10.0 |")
         self.assertEqual(lines[3], f"{head} the end of the climb | 4.00 | 12.00 | 20.0 | 20.0 to 20.0 |")
+
+
+@unittest.skipUnless(os.path.isfile(SCRIPT), "the examples aren't beside the package")
+class Told(unittest.TestCase):
+    """docs/GUIDE.md tells the figures of worth.md, from the least to the most of each kind of network."""
+
+    def setUp(self) -> None:
+        self.worth = script()
+        with open(os.path.join(ROOT, "examples", "sumo", "worth.md"), encoding="utf-8") as file:
+            rows = [[cell.strip() for cell in line.strip("|\n ").split("|")] for line in file if line.startswith("| ")]
+        self.plans = [row for row in rows if len(row) == 7][1:]
+        self.lasts = [row for row in rows if len(row) == 6][1:]
+        with open(os.path.join(ROOT, "docs", "GUIDE.md"), encoding="utf-8") as file:
+            self.guide = next(line for line in file if line.startswith("**What a lower index is worth.**"))
+
+    def told(self, figures: List[float], digits: int) -> str:
+        """The least and the most of some figures, as the guide has them."""
+        return f"{min(figures):.{digits}f} to {max(figures):.{digits}f}".replace("-", "\u2212")
+
+    def test_each_network_has_its_rows(self) -> None:
+        """In the order of the script, with the greens that it names."""
+        wanted = [[network.name, network.greens] for network in self.worth.NETWORKS]
+        self.assertEqual([row[:2] for row in self.lasts], wanted)
+        self.assertEqual([row[:3] for row in self.plans],
+                         [[*names, plan] for names in wanted for plan in self.worth.PLANS])
+
+    def test_what_is_taken_off(self) -> None:
+        """By the offsets of `starts` and by those of tlsCoordinator."""
+        for plan in (self.worth.BEST, self.worth.COORDINATED):
+            for kind in (self.worth.ROAD, self.worth.GRID, self.worth.FULL):
+                off = [float(row[5]) for row in self.plans if row[2] == plan and row[0].startswith(f"{kind}:")]
+                self.assertIn(self.told(off, 1), self.guide, (plan, kind))
+
+    def test_the_last_of_the_index(self) -> None:
+        """SUMO's delay from 5 in 100 above the end of a climb to its end."""
+        for kinds in ((self.worth.ROAD, self.worth.GRID), (self.worth.FULL,)):
+            ratios = [float(row[4]) for row in self.lasts if row[0].split(":")[0] in kinds]
+            self.assertIn(self.told(ratios, 3), self.guide, kinds)
 
 
 @unittest.skipUnless(os.path.isfile(SCRIPT), "the examples aren't beside the package")

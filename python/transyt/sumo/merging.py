@@ -1,11 +1,11 @@
-"""Ways that merge: at a junction without right of way, cars of two links that lead into one lane see each other.
+"""Ways that merge: where links of one stage lead into one lane, their cars see each other.
 
-netconvert makes no requests at such a junction, and then each car sees the others when it is in that lane: too late.
+netconvert makes no requests at a junction without right of way: a car sees the others once it is in the lane, too late.
 With requests SUMO also has cars wait within the junction for those whose way they cross; that is taken out.
 """
 
 import xml.etree.ElementTree as ElementTree
-from typing import List, Sequence
+from typing import AbstractSet, FrozenSet, List, Sequence
 
 from .netfile import Connection, net_of, read_root
 from .tools import write_root
@@ -13,15 +13,20 @@ from .tools import write_root
 UNREGULATED, REGULATED = "traffic_light_unregulated", "traffic_light"
 
 
-def put_merging(path: str) -> None:
-    """Puts into a network's file that ways into one lane meet; nobody waits for anybody, and ways that cross stay."""
+def put_merging(path: str, together: AbstractSet[FrozenSet[str]]) -> None:
+    """Puts into a network's file that ways into one lane meet, at the junctions where such roads run together.
+
+    Nobody waits for anybody, and ways that cross stay unseen.
+    """
     root = read_root(path)
     net = net_of(root)
     made = set()
     for element in root.iterfind("junction"):
         ways = net.ordered(net.junctions[element.attrib["id"]])
         merging = [merging_with(way, ways) for way in ways]
-        if element.get("type") == UNREGULATED and any(merging):
+        at_once = any(frozenset((way.start, ways[place].start)) in together
+                      for way, places in zip(ways, merging) for place in places)
+        if element.get("type") == UNREGULATED and at_once:
             element.set("type", REGULATED)
             made.add(element.attrib["id"])
             for place, foes in enumerate(merging):
@@ -31,7 +36,8 @@ def put_merging(path: str) -> None:
         if element.get("type") == "internal" and element.attrib["id"].rsplit("_", 2)[0][1:] in made:
             element.set("incLanes", element.get("incLanes", "").split(" ")[0])
             element.set("intLanes", "")
-    write_root(root, path)
+    if made:
+        write_root(root, path)
 
 
 def merging_with(way: Connection, ways: Sequence[Connection]) -> List[int]:

@@ -94,7 +94,7 @@ def convert(drawn: Map, folder: str, prohibited: bool = True) -> "Net":
               "--junctions.limit-turn-speed", "-1", "--offset.disable-normalization", "true",
               "--xml-validation", "never"], folder)
     path = os.path.join(folder, "town.net.xml")
-    put_merging(path)
+    put_merging(path, drawn.together)
     return Net(path)
 
 

@@ -2,7 +2,7 @@
 
 import math
 from dataclasses import dataclass, field
-from typing import Dict, List, Mapping, Optional, Sequence, Tuple
+from typing import Dict, FrozenSet, List, Mapping, Optional, Sequence, Set, Tuple
 
 from ..deck import Deck, Link
 from ..faults import Fault
@@ -61,13 +61,14 @@ class Map:
     """The roads of a deck and the places of their ends.
 
     `turns` has of a road and one to which it leads the vehicles an hour that go there, `gives` of a road that gives
-    way the one that has priority.
+    way the one that has priority, `together` the pairs of roads that run in one stage.
     """
 
     places: Dict[str, Tuple[float, float]] = field(default_factory=dict)
     roads: Dict[str, Road] = field(default_factory=dict)
     turns: Dict[Tuple[str, str], int] = field(default_factory=dict)
     gives: Dict[str, str] = field(default_factory=dict)
+    together: Set[FrozenSet[str]] = field(default_factory=set)
 
 
 def link_road(number: int) -> str:
@@ -133,6 +134,8 @@ def draw_map(deck: Deck) -> Map:
         taken = [math.atan2(at[other][1] - y, at[other][0] - x) for other in joined[number]]
         ends = draw_ends(deck, links, taken, drawn)
         draw_links(deck, links, drawn)
+        drawn.together.update(frozenset((link_road(one.number), link_road(other.number)))
+                              for one in links for other in links if set(one.stages) & set(other.stages))
         draw_ways_out(deck, links, ends, drawn)
     for link in deck.links:
         road = link_road(link.number)
