@@ -9,13 +9,13 @@ ghost use Rattle.transyt_net.specs.declared.edit.Edit.TheVariants as edit;
 use crate::command::{Command, Request};
 use transyt_io::is_skipped;
 use transyt_net::{Edit, Weights};
-use transyt_syntax::{Code, Numbers, first_of, further_of, is_word, say};
+use transyt_syntax::{LineWords, Numbers, Refusal, is_word};
 
 /// Reads the command of a line; `None` for a comment or a blank line.
 ///
 /// An error is the first of the codes 11, 10, 12 and 13 that holds of the line. The line may have any length, and a
 /// line end in it is a byte that may not stand there (10).
-pub fn read_command(line: &[u8]) -> Result<Option<Command>, Code>
+pub fn read_command(line: &[u8]) -> Result<Option<Command>, Refusal>
     ensures command { result ≡ command_in line.now }
     ensures nothing { (result ≡ Ok None) ↔ IsTrue (is_skipped line.now) }
     ensures refused { IfErr result (λ code.
@@ -24,21 +24,8 @@ pub fn read_command(line: &[u8]) -> Result<Option<Command>, Code>
     if is_skipped(line) {
         return Ok(None);
     }
-    let (keyword, rest) = first_of(line);
-    let further = further_of(rest);
-    say(line, command_named(keyword, &further.numbers), &further)
-}
-
-/// The least and the most numbers that the command of a line takes; `None` where no command has its keyword.
-pub fn command_counts(line: &[u8]) -> Option<(usize, usize)>
-    ensures { result ≡ counts_of commands line.now }
-{
-    let (keyword, rest) = first_of(line);
-    let further = further_of(rest);
-    match command_named(keyword, &further.numbers) {
-        Some((counts, _)) => Some(counts),
-        None => None,
-    }
+    let words = LineWords::of(line);
+    words.say(command_named(words.keyword, &words.further.numbers))
 }
 
 /// The least and the most numbers that a keyword takes, and the command that it is with these numbers.

@@ -23,7 +23,7 @@ use Rattle.transyt_deck.specs.State.{placed, state_after}
 
 -- a card in its place that the network refuses, or has no memory for
 pub adds_stopped : (fits : Bool) (first : Option DraftFault) (part to : Part) (old new net : Network)
-    (call : Result (Unit {0}) DraftFault) (made r : Result (Unit {0}) Stop) (stop : Stop)
+    (call : Result (Unit {0}) DraftFault) (made r : Result (Unit {0}) (Stop Code)) (stop : Stop Code)
     → fits ≡ true → Refuses call first (Some Memory) → OnErr call (new ≡ old) → made ≡ stopped call
     → made ≡ Err stop → IsErrAnd r (λ e. e ≡ stop) → Adds (placed fits first to net) (part, old) (part, new) r
 adds_stopped fits first part to old new net call made r stop fit refuses same is was told = grind (arith, common_steps)

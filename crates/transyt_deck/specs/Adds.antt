@@ -13,12 +13,12 @@ use Rattle.transyt_deck.specs.declared.state.Stop.TheVariants as stop
 use Rattle.transyt_deck.specs.State.{Card, Part, State, fault_code}
 
 -- an outcome with its fault as a stop: its code; a fault that has none is out of memory
-abbrev pub stopped : {T : Type 0} → Result T DraftFault → Result T Stop
+abbrev pub stopped : {T : Type 0} → Result T DraftFault → Result T (Stop Code)
 stopped (Ok x) = Ok x
 stopped (Err fault) = Err (option_map_or stop.Code (fault_code fault) stop.Memory)
 
 -- the new part is made; or it is refused with its code, or memory runs out where it has none, and all is as before
-abbrev pub Adds : {A T : Type 0} → Result A Code → A → A → Result T Stop → Type 0
+abbrev pub Adds : {A T : Type 0} → Result A Code → A → A → Result T (Stop Code) → Type 0
 Adds made old new (Ok x) = made ≡ Ok new
 Adds made old new (Err (stop.Code code)) = (made ≡ Err code) × (new ≡ old)
 Adds made old new (Err stop.Memory) = IsOk made × (new ≡ old)

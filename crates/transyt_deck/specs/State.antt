@@ -1,12 +1,14 @@
 -- The state of a deck, card by card.
 use Rattle.std.specs.Prelude.{ℕ, Bool, not, nat_le, if◌then◌else◌, ◌==◌, List, Option, Some, None, option_and_then}
-use Rattle.std.specs.Prelude.{option_map, Result, Ok, Err}
+use Rattle.std.specs.Prelude.{option_map, Result, Ok, Err, ◌&&◌, true, [], ◌-◌}
+use Rattle.std.specs.List.{list_all}
 use Rattle.transyt_syntax.specs.declared.code.Code.{Code}
 use Rattle.transyt_syntax.specs.declared.code.Code.TheVariants as code
 use Rattle.transyt_syntax.specs.Syntax.{when, unless, said}
 use Rattle.transyt_parts.specs.declared.stage_plan.PlanFault.{PlanFault}
 use Rattle.transyt_parts.specs.declared.stage_plan.PlanFault.TheVariants as plan
-use Rattle.transyt_parts.specs.Valid.{within, is_frame}
+use Rattle.transyt_parts.specs.Valid.{within, is_frame, node_in_range, stage_in_range, link_in_range, feed_in_range}
+use Rattle.transyt_parts.specs.Ranges.{is_in, most_percent, budget_range}
 use Rattle.transyt_parts.specs.Plan.{first_fault}
 use Rattle.transyt_parts.specs.Made.{link_from, new_plan}
 use Rattle.transyt_net.specs.declared.draft.DraftFault.{DraftFault}
@@ -48,6 +50,19 @@ abbrev pub plan_code : PlanFault → Code
 plan_code plan.FewStages = code.FewStages
 plan_code plan.StageOrder = code.StageOrder
 plan_code plan.LeastGreen = code.LeastGreen
+
+-- whether each number of a card is in its range, in a cycle of so many steps; a card whose numbers aren't has code 14, if
+-- none that is asked for before
+abbrev pub card_in_range : ℕ → Card → Bool
+card_in_range steps (c.Form form) = within 1 2 form
+card_in_range steps (c.Cycle frame) = is_frame frame
+card_in_range steps (c.Node number offset) = node_in_range steps number offset
+card_in_range steps (c.Stage stage) = stage_in_range steps stage
+card_in_range steps (c.Link link stages) = link_in_range steps (link_from link [])
+card_in_range steps (c.Feed link feed) = feed_in_range feed
+card_in_range steps (c.Yield link rule) = nat_le rule.percent most_percent
+card_in_range steps (c.Steps budget sizes) = is_in budget_range budget && list_all (within 1 (steps - 1)) sizes
+card_in_range steps c.End = true
 
 -- the outcome of a card: out of its place, or refused with the code of its fault, or the part and the network with it
 abbrev pub placed : Bool → Option DraftFault → Part → Network → Result (Part × Network) Code

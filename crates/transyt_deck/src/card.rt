@@ -1,14 +1,18 @@
 //! A card: what one line of a deck says.
-ghost use Rattle.std.specs.Prelude.{◌≡◌, ◌≤◌, drop, length, true, IfSome, IfOk};
+ghost use Rattle.std.specs.Prelude.{◌≡◌, ◌≤◌, ◌↔◌, ◌-◌, [], drop, length, true, IfSome, IfOk, IsOk, IsTrue};
 ghost use Rattle.transyt_syntax.specs.Syntax.{at, named, is_count, said, with_numbers};
-ghost use Rattle.transyt_parts.specs.Made.{new_stage, new_feed, new_rule};
+ghost use Rattle.transyt_parts.specs.Made.{link_from, new_stage, new_feed, new_rule};
+ghost use Rattle.transyt_parts.specs.Valid.{is_frame, link_in_range, stage_in_range, within};
+ghost use Rattle.std.specs.List.{list_all};
 ghost use Rattle.transyt_deck.specs.Cards.{cards, frame_of, new_link_of};
 ghost use Rattle.transyt_deck.specs.Adds.{CanAdd};
+ghost use Rattle.transyt_deck.specs.State.{card_in_range};
 ghost use Rattle.transyt_deck.specs.declared.card.Card.TheVariants as card;
 
+use crate::so_far::SoFar;
 use transyt_io::is_skipped;
 use transyt_net::{Feed, Frame, GiveWay, NewLink, Stage, Weights};
-use transyt_syntax::{Code, Numbers, first_of, further_of, is_word, say};
+use transyt_syntax::{Found, LineWords, NumberRange, Numbers, Refusal, is_word};
 
 /// A card as it is read, whether or not it is in its place and its numbers are in their ranges.
 #[derive(Drop)]
@@ -60,16 +64,15 @@ pub enum Card {
 
 /// Reads the card of a line in a deck of this form; `None` for a comment or a blank line. An error is the first of
 /// the codes 11, 10, 12 and 13 that holds of the line.
-pub(crate) fn read_card(form: u32, line: &[u8]) -> Result<Option<Card>, Code>
+pub(crate) fn read_card(form: u32, line: &[u8]) -> Result<Option<Card>, Refusal>
     ensures card { result ≡ said (cards form) line.now }
     ensures counts { IfOk result (λ found. IfSome found CanAdd) }
 {
     if is_skipped(line) {
         return Ok(None);
     }
-    let (keyword, rest) = first_of(line);
-    let further = further_of(rest);
-    say(line, card_named(form, keyword, &further.numbers), &further)
+    let words = LineWords::of(line);
+    words.say(card_named(form, words.keyword, &words.further.numbers))
 }
 
 /// The least and the most numbers that a keyword takes in a deck of this form, and the card that it is with these.
@@ -190,4 +193,166 @@ fn steps_of(ns: &Numbers) -> Card
         budget: ns.at(0),
         sizes: ns.after(1),
     }
+}
+
+/// Looks whether each number of a card is in its range, in a cycle of this many steps; the first that isn't is what was
+/// found.
+pub(crate) fn card_in_range(step_count: u32, card: &Card) -> Result<(), Found>
+    requires { 1 ≤ step_count }
+    ensures { IsOk result ↔ IsTrue (card_in_range step_count card.now) }
+{
+    match card {
+        Card::Form(form) => NumberRange::new("form", 1, 2).check(*form),
+        Card::Cycle(frame) => frame_in_range(*frame),
+        Card::Node { number, offset } => {
+            NumberRange::new("node number", 1, 99_999).check(*number)?;
+            NumberRange::new("offset", 0, step_count - 1).check(*offset)
+        }
+        Card::Stage(stage) => stage_in_range(step_count, *stage),
+        Card::Link { link, .. } => link_in_range(step_count, *link),
+        Card::Feed { feed, .. } => {
+            NumberRange::new("feed flow", 0, 9999).check(feed.flow)?;
+            NumberRange::new("cruise time", 1, 300).check(feed.cruise)
+        }
+        Card::Yield { rule, .. } => NumberRange::new("percentage", 0, 400).check(rule.percent),
+        Card::Steps { budget, sizes } => {
+            NumberRange::new("budget", 1, 1_000_000).check(*budget)?;
+            sizes_in_range(step_count, sizes.as_slice())
+        }
+        Card::End => Ok(()),
+    }
+}
+
+/// The same of a CYCLE card.
+fn frame_in_range(frame: Frame) -> Result<(), Found>
+    ensures { IsOk result ↔ IsTrue (is_frame frame) }
+{
+    NumberRange::new("cycle time", 30, 240).check(frame.cycle)?;
+    NumberRange::new("number of steps", 10, 120).check(frame.step_count)?;
+    NumberRange::new("number of sweeps", 1, 8).check(frame.sweeps)?;
+    NumberRange::new("period", 15, 120).check(frame.period)?;
+    NumberRange::new("stop penalty", 0, 9999).check(frame.stop_penalty)?;
+    NumberRange::new("dispersion", 0, 100).check(frame.dispersion)
+}
+
+/// The same of a STAGE card.
+fn stage_in_range(step_count: u32, stage: Stage) -> Result<(), Found>
+    requires { 1 ≤ step_count }
+    ensures { IsOk result ↔ IsTrue (stage_in_range step_count stage) }
+{
+    NumberRange::new("change", 0, step_count - 1).check(stage.change)?;
+    NumberRange::new("intergreen", 0, step_count - 1).check(stage.intergreen)?;
+    NumberRange::new("least green", 1, step_count).check(stage.least)
+}
+
+/// The same of a LINK card.
+fn link_in_range(step_count: u32, link: NewLink) -> Result<(), Found>
+    requires { 1 ≤ step_count }
+    ensures { IsOk result ↔ IsTrue (link_in_range step_count (link_from link [])) }
+{
+    NumberRange::new("link number", 1, 99_999).check(link.number)?;
+    NumberRange::new("entry flow", 0, 9999).check(link.entry)?;
+    NumberRange::new("saturation flow", 100, 9999).check(link.saturation)?;
+    NumberRange::new("delay weight", 0, 999).check(link.weights.delay)?;
+    NumberRange::new("stop weight", 0, 999).check(link.weights.stop)?;
+    NumberRange::new("start lag", 0, step_count - 1).check(link.start_lag)?;
+    NumberRange::new("end lag", 0, step_count - 1).check(link.end_lag)
+}
+
+/// The same of the sizes of a STEPS card.
+fn sizes_in_range(step_count: u32, sizes: &[u32]) -> Result<(), Found>
+    requires { 1 ≤ step_count }
+    ensures { IsOk result ↔ IsTrue (list_all (within 1 (step_count - 1)) sizes.now) }
+{
+    match sizes {
+        [] => Ok(()),
+        [first, rest @ ..] => {
+            NumberRange::new("step size", 1, step_count - 1).check(*first)?;
+            sizes_in_range(step_count, rest)
+        }
+    }
+}
+
+impl Card {
+    /// Where a card of its kind may stand, in words.
+    pub(crate) fn place(&self) -> &'static str {
+        match self {
+            Card::Form(_) => "FORM stands first, and once",
+            Card::Cycle(_) => "CYCLE stands first or after FORM, and once",
+            Card::Node { .. } => "a NODE stands after CYCLE and before the first LINK",
+            Card::Stage(_) => "a STAGE stands after its NODE or after a STAGE of it",
+            Card::Link { .. } => "a LINK stands after the nodes and before the first FEED",
+            Card::Feed { .. } => "a FEED stands after the links and before STEPS",
+            Card::Yield { .. } => "a YIELD stands after the links and before STEPS",
+            Card::Steps { .. } => "STEPS stands before END, and once",
+            Card::End => "END stands after CYCLE",
+        }
+    }
+
+    /// How many cards of its kind there may be, in words.
+    pub(crate) fn most(&self) -> &'static str {
+        match self {
+            Card::Node { .. } => "a deck has at most 200 nodes",
+            Card::Stage(_) => "a node has at most 8 stages",
+            Card::Link { .. } => "a deck has at most 1000 links",
+            _ => "a link has at most 8 feeds",
+        }
+    }
+
+    /// The number of the card that is there already.
+    pub(crate) fn twice(&self, so_far: &SoFar<'_>) -> Found {
+        match self {
+            Card::Node { number, .. } => rule("there is a node # already", *number, 0),
+            Card::Link { link, stages } => link_twice(link.number, stages.as_slice(), so_far),
+            Card::Feed { link, feed } => {
+                rule("link # has a feed from link # already", *link, feed.feeder)
+            }
+            Card::Yield { link, .. } => rule("link # has a give-way rule already", *link, 0),
+            _ => Found::Nothing,
+        }
+    }
+
+    /// The node, link or stage that the card names and that isn't there.
+    pub(crate) fn unknown(&self, so_far: &SoFar<'_>) -> Found {
+        match self {
+            Card::Link { link, stages } => so_far.missing_stage(link.node, stages.as_slice()),
+            Card::Feed { link, feed } => so_far.missing_link(*link, feed.feeder),
+            Card::Yield { link, rule } => so_far.missing_link(*link, rule.other),
+            _ => Found::Nothing,
+        }
+    }
+}
+
+/// A rule that a card breaks, in words with two numbers at most.
+fn rule(form: &'static str, first: u32, second: u32) -> Found {
+    Found::Rule {
+        form,
+        numbers: [first, second],
+    }
+}
+
+/// The number of a LINK card that is there already, or the stage that stands in it twice.
+fn link_twice(number: u32, stages: &[u32], so_far: &SoFar<'_>) -> Found {
+    if so_far.has_link(number) {
+        return rule("there is a link # already", number, 0);
+    }
+    rule(
+        "stage # stands twice in link #",
+        first_twice(stages),
+        number,
+    )
+}
+
+/// The first number that stands in a list once more; 0 where none does.
+fn first_twice(numbers: &[u32]) -> u32 {
+    let mut place: usize = 0;
+    for number in numbers {
+        place = place.saturating_add(1);
+        if let Some(later) = numbers.get(place..) {
+            if later.contains(number) {
+                return *number;
+            }
+        }
+    }
+    0
 }

@@ -24,6 +24,7 @@ mod cut;
 mod deck_text;
 mod laws;
 mod reader;
+mod so_far;
 mod state;
 
 pub use card::Card;
@@ -31,4 +32,5 @@ pub use cut::{Cut, cut_deck};
 pub use deck_text::print_deck;
 pub use laws::{line_by_line, text_reads_back, worked_decks};
 pub use reader::{CardReader, CardStop, Progress};
+pub use so_far::check_plan;
 pub use state::{Part, State};

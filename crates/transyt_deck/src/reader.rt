@@ -10,17 +10,17 @@ use crate::state::{Part, State, Stop, take_line};
 use std::alloc::Global;
 use std::marker::Model;
 use transyt_net::{Draft, Net};
-use transyt_syntax::Code;
+use transyt_syntax::{Code, Refusal};
 
 /// Why a line isn't taken.
-#[derive(Clone, Copy, PartialEq, Eq)]
+#[derive(Drop)]
 pub enum CardStop {
     /// The line with this number, from 1, is refused with this code.
     Refused {
         /// The number of the line.
         card: u32,
-        /// Its first code.
-        code: Code,
+        /// Its first code, with what was found.
+        code: Refusal,
     },
     /// Out of memory. Of `CardReader::take` it comes only at a line that has no code.
     Memory,
@@ -146,7 +146,7 @@ impl CardReader {
                 drop(state);
                 Err(CardStop::Refused {
                     card: self.taken + 1,
-                    code: Code::NoEnd,
+                    code: Refusal::from(Code::NoEnd),
                 })
             }
         }

@@ -7,11 +7,12 @@ ghost use Rattle.transyt_deck.specs.State.{rank, up_to, form_of, framed, added, 
 ghost use Rattle.transyt_deck.specs.declared.state.Stop.TheVariants as stop;
 ghost use Rattle.transyt_deck.specs.Adds.{Adds, CanAdd, IsTied, IsTiedState, stopped};
 
-use crate::card::{Card, read_card};
+use crate::card::{Card, card_in_range, read_card};
+use crate::so_far::SoFar;
 use std::alloc::Global;
 use std::mem;
 use transyt_net::{Draft, DraftFault, Feed, GiveWay, NewLink, PlanFault, Stage};
-use transyt_syntax::{Code, Numbers};
+use transyt_syntax::{Code, Found, Numbers, Refusal};
 
 /// How far a deck has come from its CYCLE card on; later parts come later.
 #[derive(Clone, Copy)]
@@ -75,10 +76,10 @@ pub enum State {
 }
 
 /// Why a card isn't taken.
-#[derive(Clone, Copy)]
-pub(crate) enum Stop {
+#[derive(Drop)]
+pub(crate) enum Stop<C> {
     /// The card's first code.
-    Code(Code),
+    Code(C),
     /// Out of memory.
     Memory,
 }
@@ -108,20 +109,40 @@ impl State {
 }
 
 /// Takes one line; a line that is refused changes nothing.
-pub(crate) fn take_line(alloc: Global, state: &mut State, line: &[u8]) -> Result<(), Stop>
+pub(crate) fn take_line(alloc: Global, state: &mut State, line: &[u8]) -> Result<(), Stop<Refusal>>
     requires tied { IsTiedState state.old }
     ensures adds { Adds (state_after state.old line.now) state.old state.new result }
     ensures stays_tied { IsTiedState state.new }
 {
     match read_card(state.form(), line) {
         Ok(None) => Ok(()),
-        Ok(Some(card)) => add(alloc, state, &card),
-        Err(code) => Err(Stop::Code(code)),
+        Ok(Some(card)) => match add(alloc, state, &card) {
+            Ok(()) => Ok(()),
+            Err(Stop::Code(code)) => Err(Stop::Code(explained(state, &card, code))),
+            Err(Stop::Memory) => Err(Stop::Memory),
+        },
+        Err(refusal) => Err(Stop::Code(refusal)),
     }
 }
 
+/// The refusal with this code of a card after the cards of a state, which is explained by both.
+fn explained(state: &State, card: &Card, code: Code) -> Refusal
+    ensures { result ≡ code }
+{
+    let so_far = SoFar::of(state);
+    let found = match code {
+        Code::OutOfPlace => Found::rule(card.place()),
+        Code::TooMany => Found::rule(card.most()),
+        Code::Twice => card.twice(&so_far),
+        Code::Unknown => card.unknown(&so_far),
+        Code::Range => Found::by(card_in_range(so_far.step_count(), card)),
+        _ => Found::by(so_far.check_plans()),
+    };
+    Refusal::new(code, found)
+}
+
 /// Adds one card; a card that is refused changes nothing.
-fn add(alloc: Global, state: &mut State, card: &Card) -> Result<(), Stop>
+fn add(alloc: Global, state: &mut State, card: &Card) -> Result<(), Stop<Code>>
     requires tied { IsTiedState state.old }
     requires counts { CanAdd card.now }
     ensures adds { Adds (state_with state.old card.now) state.old state.new result }
@@ -139,7 +160,7 @@ fn add(alloc: Global, state: &mut State, card: &Card) -> Result<(), Stop>
 
 /// Puts the state that a card begins in the place of the one before; a card that is refused changes nothing. The old
 /// state is dropped by a call, as wherever a state is dropped: its drop is then proved once.
-fn replace(state: &mut State, begun: Result<State, Code>) -> Result<(), Stop>
+fn replace(state: &mut State, begun: Result<State, Code>) -> Result<(), Stop<Code>>
     ensures begun { IfOk begun (λ new. (state.new ≡ new) × (result ≡ Ok tt)) }
     ensures refused { IfErr begun
         (λ code. (state.new ≡ state.old) × (result ≡ Err (stop.Code code))) }
@@ -189,7 +210,7 @@ fn begin(alloc: Global, form: u32, card: &Card) -> Result<State, Code>
 }
 
 /// A card after the CYCLE card.
-fn add_to(part: &mut Part, draft: &mut Draft, card: &Card) -> Result<(), Stop>
+fn add_to(part: &mut Part, draft: &mut Draft, card: &Card) -> Result<(), Stop<Code>>
     requires tied { IsTied part.old draft.old }
     requires counts { CanAdd card.now }
     ensures adds { Adds (added part.old draft.old card.now)
@@ -209,7 +230,7 @@ fn add_to(part: &mut Part, draft: &mut Draft, card: &Card) -> Result<(), Stop>
 }
 
 /// A NODE card.
-fn add_node(part: &mut Part, draft: &mut Draft, number: u32, offset: u32) -> Result<(), Stop>
+fn add_node(part: &mut Part, draft: &mut Draft, number: u32, offset: u32) -> Result<(), Stop<Code>>
     requires tied { IsTied part.old draft.old }
     ensures adds { Adds (added part.old draft.old (card.Node number offset))
         (part.old, draft.old) (part.new, draft.new) result }
@@ -224,7 +245,7 @@ fn add_node(part: &mut Part, draft: &mut Draft, number: u32, offset: u32) -> Res
 }
 
 /// A STAGE card.
-fn add_stage(part: &mut Part, draft: &mut Draft, stage: Stage) -> Result<(), Stop>
+fn add_stage(part: &mut Part, draft: &mut Draft, stage: Stage) -> Result<(), Stop<Code>>
     requires tied { IsTied part.old draft.old }
     ensures adds { Adds (added part.old draft.old (card.Stage stage))
         (part.old, draft.old) (part.new, draft.new) result }
@@ -239,7 +260,12 @@ fn add_stage(part: &mut Part, draft: &mut Draft, stage: Stage) -> Result<(), Sto
 }
 
 /// A LINK card.
-fn add_link(part: &mut Part, draft: &mut Draft, link: NewLink, stages: &Numbers) -> Result<(), Stop>
+fn add_link(
+    part: &mut Part,
+    draft: &mut Draft,
+    link: NewLink,
+    stages: &Numbers,
+) -> Result<(), Stop<Code>>
     requires tied { IsTied part.old draft.old }
     requires some { 1 ≤ length stages.now }
     requires most { length stages.now ≤ 8 }
@@ -256,7 +282,7 @@ fn add_link(part: &mut Part, draft: &mut Draft, link: NewLink, stages: &Numbers)
 }
 
 /// A FEED card.
-fn add_feed(part: &mut Part, draft: &mut Draft, link: u32, feed: Feed) -> Result<(), Stop>
+fn add_feed(part: &mut Part, draft: &mut Draft, link: u32, feed: Feed) -> Result<(), Stop<Code>>
     requires tied { IsTied part.old draft.old }
     ensures adds { Adds (added part.old draft.old (card.Feed link feed))
         (part.old, draft.old) (part.new, draft.new) result }
@@ -271,7 +297,7 @@ fn add_feed(part: &mut Part, draft: &mut Draft, link: u32, feed: Feed) -> Result
 }
 
 /// A YIELD card.
-fn add_rule(part: &mut Part, draft: &mut Draft, link: u32, rule: GiveWay) -> Result<(), Stop>
+fn add_rule(part: &mut Part, draft: &mut Draft, link: u32, rule: GiveWay) -> Result<(), Stop<Code>>
     requires tied { IsTied part.old draft.old }
     ensures adds { Adds (added part.old draft.old (card.Yield link rule))
         (part.old, draft.old) (part.new, draft.new) result }
@@ -286,7 +312,12 @@ fn add_rule(part: &mut Part, draft: &mut Draft, link: u32, rule: GiveWay) -> Res
 }
 
 /// A STEPS card.
-fn add_plan(part: &mut Part, draft: &mut Draft, budget: u32, sizes: &Numbers) -> Result<(), Stop>
+fn add_plan(
+    part: &mut Part,
+    draft: &mut Draft,
+    budget: u32,
+    sizes: &Numbers,
+) -> Result<(), Stop<Code>>
     requires tied { IsTied part.old draft.old }
     requires some { 1 ≤ length sizes.now }
     requires most { length sizes.now ≤ 16 }
@@ -303,7 +334,7 @@ fn add_plan(part: &mut Part, draft: &mut Draft, budget: u32, sizes: &Numbers) ->
 }
 
 /// An END card: the stage plans are judged, node by node.
-fn end(part: &mut Part, draft: &Draft) -> Result<(), Stop>
+fn end(part: &mut Part, draft: &Draft) -> Result<(), Stop<Code>>
     ensures adds { Adds (added part.old draft.now card.End)
         (part.old, draft.now) (part.new, draft.now) result }
     ensures tied { OnOk result (IsTied part.new draft.now) }
@@ -319,7 +350,7 @@ fn end(part: &mut Part, draft: &Draft) -> Result<(), Stop>
 }
 
 /// The outcome of a call of the draft, with its fault as a stop.
-fn stopped(outcome: Result<(), DraftFault>) -> Result<(), Stop>
+fn stopped(outcome: Result<(), DraftFault>) -> Result<(), Stop<Code>>
     ensures { result ≡ stopped outcome }
 {
     match outcome {

@@ -4,10 +4,10 @@ ghost use Rattle.transyt_line_answers.specs.Report.{answer_ends};
 
 use transyt_outcome::Ending;
 use transyt_report::Report;
-use transyt_syntax::Code;
+use transyt_syntax::Refusal;
 
 /// The answer to a line after END.
-#[derive(Clone, Copy, Drop)]
+#[derive(Drop)]
 pub enum Answer {
     /// A comment or a blank line: nothing is written.
     Nothing,
@@ -16,7 +16,7 @@ pub enum Answer {
     /// An edit, a TRIAL, a BACK or a KEEP was carried out.
     Done,
     /// The command is refused and changes nothing.
-    Refused(Code),
+    Refused(Refusal),
     /// A report.
     Show(Report),
     /// The plot of the link at a place, in card order from 0.
@@ -31,8 +31,8 @@ pub enum Answer {
 
 impl Answer {
     /// How it ends the run, if it does.
-    pub fn ending(self) -> Option<Ending>
-        ensures { result ≡ answer_ends self }
+    pub fn ending(&self) -> Option<Ending>
+        ensures { result ≡ answer_ends self.now }
     {
         match self {
             Answer::Stop => Some(Ending::Stopped),

@@ -2,30 +2,32 @@
 ghost use Rattle.std.specs.Prelude.{◌≡◌, ◌+◌, ◌^◌, ◌≤◌, ◌<◌, None, IsSome, IfSome, length};
 ghost use Rattle.transyt_net.specs.Valid.{place_of, link_numbers};
 ghost use Rattle.transyt_session.specs.Session.{edited, trial_of, back_of, keep_of};
-ghost use Rattle.transyt_line_answers.specs.Commands.{edit_code, about_link, planned, requested, answer_to, judged};
+ghost use Rattle.transyt_line_answers.specs.Commands.{about_link, planned, requested, answer_to, judged};
 ghost use Rattle.transyt_line_answers.specs.Commands.{line_answer, line_judged};
 ghost use Rattle.transyt_line_answers.specs.Conditions.{IsOf};
 
 use crate::answer::Answer;
+use crate::refusing::refused_edit;
 use std::sync::ledger::Ledger;
 use transyt_commands::{Command, Request, read_command};
-use transyt_net::{Edit, EditFault};
+use transyt_net::Edit;
 use transyt_report::Report;
 use transyt_session::{Reply, Session};
 use transyt_steps::Steps;
-use transyt_syntax::Code;
+use transyt_syntax::{Code, Found, Refusal};
 
-/// The code of an edit's fault.
-fn edit_code(fault: EditFault) -> Code
-    ensures { result ≡ edit_code fault }
+/// The refusal with a code that says all.
+fn refused(code: Code) -> Answer
+    ensures { result ≡ Answer.Refused code }
 {
-    match fault {
-        EditFault::Unknown => Code::Unknown,
-        EditFault::NoFeeder => Code::NoFeeder,
-        EditFault::Range => Code::Range,
-        EditFault::StageOrder => Code::StageOrder,
-        EditFault::LeastGreen => Code::LeastGreen,
-    }
+    Answer::Refused(Refusal::from(code))
+}
+
+/// The refusal of a command about a link that isn't there.
+fn no_link(link: u32) -> Answer
+    ensures { result ≡ Answer.Refused Code.Unknown }
+{
+    Answer::Refused(Refusal::new(Code::Unknown, Found::NoLink(link)))
 }
 
 /// Makes an edit, or refuses it.
@@ -39,7 +41,7 @@ fn judge_edit<L: Ledger>(session: &mut Session, edit: Edit, steps: &mut Steps<L>
 {
     match session.edit(edit, steps) {
         Reply::Done { .. } => Answer::Done,
-        Reply::Refused(fault) => Answer::Refused(edit_code(fault)),
+        Reply::Refused(fault) => Answer::Refused(refused_edit(session.net(), edit, fault)),
     }
 }
 
@@ -51,7 +53,7 @@ fn judge_trial(session: &mut Session) -> Answer
 {
     match session.trial() {
         Ok(()) => Answer::Done,
-        Err(_) => Answer::Refused(Code::OpenTrial),
+        Err(_) => refused(Code::OpenTrial),
     }
 }
 
@@ -63,7 +65,7 @@ fn judge_back(session: &mut Session) -> Answer
 {
     match session.back() {
         Ok(()) => Answer::Done,
-        Err(_) => Answer::Refused(Code::NoTrial),
+        Err(_) => refused(Code::NoTrial),
     }
 }
 
@@ -75,7 +77,7 @@ fn judge_keep(session: &mut Session) -> Answer
 {
     match session.keep() {
         Ok(()) => Answer::Done,
-        Err(_) => Answer::Refused(Code::NoTrial),
+        Err(_) => refused(Code::NoTrial),
     }
 }
 
@@ -86,12 +88,12 @@ fn planned(session: &Session, answer: Answer) -> Answer
     ensures ready { IsOf session.now result }
 {
     if session.is_trial() {
-        return Answer::Refused(Code::OpenTrial);
+        return refused(Code::OpenTrial);
     }
     let net = session.net();
     match net.plan() {
         Some(_) => answer,
-        None => Answer::Refused(Code::NoPlan),
+        None => refused(Code::NoPlan),
     }
 }
 
@@ -112,7 +114,7 @@ fn judge_profile(session: &Session, link: u32) -> Answer
 {
     match place_of(session, link) {
         Some(place) => Answer::Show(Report::Profile { link: place }),
-        None => Answer::Refused(Code::Unknown),
+        None => no_link(link),
     }
 }
 
@@ -124,7 +126,7 @@ fn judge_queue(session: &Session, link: u32) -> Answer
 {
     match place_of(session, link) {
         Some(place) => Answer::Show(Report::Queue { link: place }),
-        None => Answer::Refused(Code::Unknown),
+        None => no_link(link),
     }
 }
 
@@ -135,7 +137,7 @@ fn judge_plot(session: &Session, link: u32) -> Answer
 {
     match place_of(session, link) {
         Some(place) => Answer::Plot(place),
-        None => Answer::Refused(Code::Unknown),
+        None => no_link(link),
     }
 }
 
@@ -192,6 +194,6 @@ pub fn judge<L: Ledger>(session: &mut Session, line: &[u8], steps: &mut Steps<L>
     match read_command(line) {
         Ok(None) => Answer::Nothing,
         Ok(Some(command)) => judge_command(session, command, steps),
-        Err(code) => Answer::Refused(code),
+        Err(refusal) => Answer::Refused(refusal),
     }
 }

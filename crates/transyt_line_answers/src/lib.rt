@@ -7,13 +7,14 @@
 //!
 //! `specs/Report` is the report as a fold over the lines. `specs/Commands` has the answer to a command, its text
 //! and the session after it, `specs/Steps` the facts of each step of a climb. `answering` answers a command over a
-//! session, `writing` writes the answer. `certifying` writes the lines of a certificate.
+//! session, `refusing` says what was found where an edit is refused, `writing` writes the answer. `certifying` writes the lines of a certificate.
 #![tactic(auto)]
 
 mod answer;
 mod answering;
 mod certifying;
 mod laws;
+mod refusing;
 mod writing;
 
 pub use answer::Answer;
@@ -22,4 +23,4 @@ pub use certifying::{write_cert_end, write_cert_place};
 pub use laws::{
     steps_are_work, steps_lower, worked_commands, worked_lowering, worked_reports, worked_trial,
 };
-pub use writing::{print_accepted, print_card_refused, write_text};
+pub use writing::{RefusedCard, print_accepted, print_card_refused, write_text};

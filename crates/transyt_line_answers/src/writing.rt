@@ -12,19 +12,31 @@ use transyt_io::{Failed, LineBuffer, Sink, print_form};
 use transyt_net::Net;
 use transyt_report::{Report, plot, show};
 use transyt_session::Session;
-use transyt_syntax::Code;
+use transyt_syntax::{Code, Refusal};
+
+/// A card that is refused: the number of its line, from 1, and its refusal.
+#[derive(Drop)]
+pub struct RefusedCard {
+    /// The number of its line, from 1.
+    pub card: u32,
+    /// Its refusal.
+    pub refusal: Refusal,
+}
 
 /// Writes the line of a refused card, `CARD number REFUSED code`. On Failed some first bytes of it were written.
 #[tactic(auto, unfolding(crate::specs::Report::card_refused))]
 pub fn print_card_refused<K: Sink>(
-    card: u32,
-    code: Code,
+    refused: &RefusedCard,
     line: &mut LineBuffer,
     sink: &mut K,
 ) -> Result<(), Failed>
-    ensures { PrintsOn K.written K.faults sink.old sink.new result (card_refused card code) }
+    ensures { PrintsOn K.written K.faults sink.old sink.new result
+        (card_refused refused.now.card refused.now.refusal) }
 {
-    let numbers = [u128::from(card), u128::from(code.number())];
+    let numbers = [
+        u128::from(refused.card),
+        u128::from(refused.refusal.number()),
+    ];
     print_form(b"CARD # REFUSED #", &numbers, line, sink)
 }
 
@@ -56,22 +68,22 @@ fn print_refused<K: Sink>(code: Code, line: &mut LineBuffer, sink: &mut K) -> Re
 /// Writes the text of an answer other than CLIMB and CERT. On Failed some first bytes of it were written. It takes no
 /// memory.
 pub fn write_text<K: Sink>(
-    answer: Answer,
+    answer: &Answer,
     session: &Session,
     line: &mut LineBuffer,
     sink: &mut K,
 ) -> Result<(), Failed>
-    requires of { IsOf session.now answer }
-    requires told { is_told answer ≡ true }
+    requires of { IsOf session.now answer.now }
+    requires told { is_told answer.now ≡ true }
     ensures { PrintsOn K.written K.faults sink.old sink.new result
-        (answer_text session.now answer) }
+        (answer_text session.now answer.now) }
 {
     match answer {
         Answer::Nothing | Answer::Stop => Ok(()),
         Answer::Done => print_done(line, sink),
-        Answer::Refused(code) => print_refused(code, line, sink),
-        Answer::Show(what) => show(what, session, line, sink),
-        Answer::Plot(place) => plot(session, place, line, sink),
+        Answer::Refused(refusal) => print_refused(refusal.code(), line, sink),
+        Answer::Show(what) => show(*what, session, line, sink),
+        Answer::Plot(place) => plot(session, *place, line, sink),
         Answer::Deck => print_deck(session.net(), line, sink),
         Answer::Climb | Answer::Cert => unreachable!(),
     }

@@ -1,49 +1,26 @@
 //! Remarks of a run, which a sink is told beside its report.
 ghost use Rattle.std.specs.Prelude.{◌≡◌};
 
-use transyt_deck::CardReader;
 use transyt_io::Sink;
-use transyt_line_answers::Answer;
-use transyt_sentences::{
-    Site, on_budget, on_card, on_certificate, on_command, on_refused_commands,
-};
-use transyt_session::Session;
-use transyt_syntax::Code;
-
-/// A line of the input with its number, from 1.
-#[derive(Clone, Copy)]
-pub(crate) struct InputLine<'a> {
-    pub(crate) number: u32,
-    pub(crate) text: &'a [u8],
-}
+use transyt_line_answers::{Answer, RefusedCard};
+use transyt_sentences::{on_budget, on_card, on_certificate, on_command, on_refused_commands};
 
 /// Tells why a card was refused.
-pub(crate) fn remark_card<K: Sink>(
-    cards: &CardReader,
-    code: Code,
-    line: InputLine<'_>,
-    sink: &mut K,
-)
+pub(crate) fn remark_card<K: Sink>(refused: &RefusedCard, sink: &mut K)
     ensures written { K.written sink.new ≡ K.written sink.old }
     ensures faults { K.faults sink.new ≡ K.faults sink.old }
 {
-    let site = Site::in_deck(cards.form(), cards.draft());
-    let sentence = on_card(line.number, code, line.text, site);
+    let sentence = on_card(refused.card, &refused.refusal);
     sink.remark(sentence.bytes());
 }
 
-/// Tells why a command was refused, if it was.
-pub(crate) fn remark_command<K: Sink>(
-    answer: Answer,
-    line: InputLine<'_>,
-    session: &Session,
-    sink: &mut K,
-)
+/// Tells why the command of the line with this number, from 1, was refused, if it was.
+pub(crate) fn remark_command<K: Sink>(number: u32, answer: &Answer, sink: &mut K)
     ensures written { K.written sink.new ≡ K.written sink.old }
     ensures faults { K.faults sink.new ≡ K.faults sink.old }
 {
-    if let Answer::Refused(code) = answer {
-        let sentence = on_command(line.number, code, line.text, Site::of(session.net()));
+    if let Answer::Refused(refusal) = answer {
+        let sentence = on_command(number, refusal);
         sink.remark(sentence.bytes());
     }
 }

@@ -12,7 +12,7 @@ ghost use Rattle.transyt_line_answers.specs.Report.{deck_ends, deck_steps, line_
 ghost use Rattle.transyt_reporter.specs.Reporter.{IsLive, state_of, AreKept, new_reporter};
 
 use crate::opening::desks_of;
-use crate::remarks::{InputLine, remark_card, remark_command};
+use crate::remarks::{remark_card, remark_command};
 use crate::workers::{AnswerWriter, Workers};
 use crate::writing::write_answer;
 use std::alloc::{AllocError, Global};
@@ -23,10 +23,10 @@ use std::thread::Threads;
 use transyt_deck::{CardReader, CardStop, Progress};
 use transyt_desks::{Desks, Gate};
 use transyt_io::{Failed, Sink};
-use transyt_line_answers::{judge, print_accepted, print_card_refused};
+use transyt_line_answers::{RefusedCard, judge, print_accepted, print_card_refused};
 use transyt_outcome::{Ending, Stop};
 use transyt_steps::Steps;
-use transyt_syntax::Code;
+use transyt_syntax::{Code, Refusal};
 
 /// Answers the lines of a deck and, from END on, the commands over desks for so many workers.
 ///
@@ -96,13 +96,9 @@ fn answer_command<R: Threads + Sync, G: Gate, K: Sink, L: Ledger>(
         steps.old steps.new }
 {
     let answer = judge(desks.session_mut(), command, steps);
-    writer.count(answer);
-    let said = InputLine {
-        number: writer.number,
-        text: command,
-    };
-    remark_command(answer, said, desks.session(), sink);
-    match write_answer(writer, answer, desks, sink, steps) {
+    writer.count(&answer);
+    remark_command(writer.number, &answer, sink);
+    match write_answer(writer, &answer, desks, sink, steps) {
         Ok(()) => Ok(answer.ending()),
         Err(Failed) => Err(Stop::Write),
     }
@@ -153,12 +149,12 @@ impl<'a, R, G> Reporter<'a, R, G> {
             Ok(Progress::More) => Ok(None),
             Ok(Progress::Complete) => self.complete(sink, steps),
             Err(CardStop::Refused { card, code }) => {
-                let refused = InputLine {
-                    number: card,
-                    text: line,
+                let refused = RefusedCard {
+                    card,
+                    refusal: code,
                 };
-                remark_card(&self.cards, code, refused, sink);
-                match print_card_refused(card, code, &mut self.writer.line, sink) {
+                remark_card(&refused, sink);
+                match print_card_refused(&refused, &mut self.writer.line, sink) {
                     Ok(()) => Ok(Some(Ending::Refused)),
                     Err(Failed) => Err(Stop::Write),
                 }
@@ -253,13 +249,12 @@ impl<'a, R, G> Reporter<'a, R, G> {
         if self.desks.is_some() {
             return Ok(false);
         }
-        let card = self.cards.taken() + 1;
-        let end = InputLine {
-            number: card,
-            text: b"",
+        let refused = RefusedCard {
+            card: self.cards.taken() + 1,
+            refusal: Refusal::from(Code::NoEnd),
         };
-        remark_card(&self.cards, Code::NoEnd, end, sink);
-        match print_card_refused(card, Code::NoEnd, &mut self.writer.line, sink) {
+        remark_card(&refused, sink);
+        match print_card_refused(&refused, &mut self.writer.line, sink) {
             Ok(()) => Ok(true),
             Err(Failed) => Err(Stop::Write),
         }

@@ -48,7 +48,7 @@ impl<'a, R, G> AnswerWriter<'a, R, G> {
     }
 
     /// Counts an answer that is a refusal.
-    pub(crate) fn count(&mut self, answer: Answer)
+    pub(crate) fn count(&mut self, answer: &Answer)
         ensures { self.new.workers.count ≡ self.old.workers.count }
     {
         if let Answer::Refused(_) = answer {

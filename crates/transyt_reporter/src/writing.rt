@@ -21,20 +21,20 @@ use transyt_steps::Steps;
 /// On Failed some first bytes of the text were written. It takes no memory.
 pub(crate) fn write_answer<R: Threads + Sync, G: Gate, K: Sink, L: Ledger>(
     writer: &mut AnswerWriter<'_, R, G>,
-    answer: Answer,
+    answer: &Answer,
     desks: &mut Desks,
     sink: &mut K,
     steps: &mut Steps<L>,
 ) -> Result<(), Failed>
     requires ready { AreReady desks.old }
     requires len { length desks.old ≡ writer.old.workers.count }
-    requires of { IsOf (desk_zero desks.old) answer }
+    requires of { IsOf (desk_zero desks.old) answer.now }
     requires room { (desk_zero desks.old).work ≤ 2 ^ 60 }
     ensures prints { PrintsOn K.written K.faults sink.old sink.new result
-        (answer_text (desk_zero desks.old) answer) }
-    ensures state { OnOk result (desk_zero desks.new ≡ after_answer answer (desk_zero desks.old)) }
+        (answer_text (desk_zero desks.old) answer.now) }
+    ensures state { OnOk result (desk_zero desks.new ≡ after_answer answer.now (desk_zero desks.old)) }
     ensures workers { writer.new.workers.count ≡ writer.old.workers.count }
-    ensures leaves { LeavesReady 8000072000 (after_answer answer (desk_zero desks.old)) desks.old
+    ensures leaves { LeavesReady 8000072000 (after_answer answer.now (desk_zero desks.old)) desks.old
         desks.new
         steps.old steps.new }
 {

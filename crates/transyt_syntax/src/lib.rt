@@ -9,16 +9,23 @@
 //!
 //! The keywords and the counts of their numbers are the caller's: a table for cards, another for commands.
 //! No call takes memory.
+//!
+//! A line is refused with a [`Refusal`]: its code, and what was found in it ([`Found`]). A contract sees the code alone;
+//! what was found is told to a person.
 #![tactic(auto)]
 
 mod code;
+mod found;
 mod laws;
 mod line;
 mod numbers;
+mod refusal;
 mod words;
 
 pub use code::Code;
+pub use found::{Found, NumberRange, WordFront};
 pub use laws::worked_lines;
-pub use line::say;
-pub use numbers::{Further, Numbers, further_of};
-pub use words::{first_of, is_word, read_numbers, word_count};
+pub use line::LineWords;
+pub use numbers::{Further, Numbers};
+pub use refusal::Refusal;
+pub use words::is_word;

@@ -71,7 +71,7 @@ pub struct Further {
 }
 
 /// The words of the bytes after a keyword.
-pub fn further_of(rest: &[u8]) -> Further
+pub(crate) fn further_of(rest: &[u8]) -> Further
     ensures count { result.count ≡ length (words rest.now) }
     ensures numbers { result.are_numbers ≡ is_some (few_numbers (words rest.now)) }
     ensures length { result.are_numbers ≡ true → length result.numbers ≡ result.count }

@@ -8,12 +8,12 @@ ghost use Rattle.transyt_words.specs.Answer.{AnswerValue};
 
 use crate::answer::Answer;
 use crate::line::{AnswerLine, one};
-use crate::refusal::on_refused_card;
 use std::alloc::{AllocError, Global};
 use std::sync::ledger::Ledger;
 use std::thread::Threads;
 use transyt_deck::{CardStop, Cut, cut_deck};
 use transyt_io::Sink;
+use transyt_sentences::on_card;
 use transyt_steps::Steps;
 
 /// The runtime and the allocator that a word is handed.
@@ -96,9 +96,8 @@ pub fn judge_deck<R: Threads + Sync, W: DeckWord, K: Sink, L: Ledger>(
             found
         }
         Err(CardStop::Refused { card, code }) => {
-            let lines = one(alloc, AnswerLine::refused_card(card, code))?;
-            let sentence = on_refused_card(alloc, input, card, code);
-            Ok(Answer::refusal(lines).with_remark(sentence))
+            let lines = one(alloc, AnswerLine::refused_card(card, code.code()))?;
+            Ok(Answer::refusal(lines).with_remark(on_card(card, &code)))
         }
         Err(CardStop::Memory) => Err(AllocError),
     }

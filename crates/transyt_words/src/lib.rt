@@ -24,7 +24,6 @@ mod deck_word;
 mod equisat;
 mod laws;
 mod line;
-mod refusal;
 mod scan;
 mod starts;
 mod table;

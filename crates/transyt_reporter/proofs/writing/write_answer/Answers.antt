@@ -25,14 +25,14 @@ returns-in-Climb-clause-leaves g c = rw c.in-Climb.is c.climb_on.ensures.leaves
 
 -- any other answer is no more than its text
 pub write_text-requires-clause-told : goal.write_text-requires-clause-told
-write_text-requires-clause-told g c = told_by c.args.answer c.in_default.not-Climb c.in_default.not-Cert
+write_text-requires-clause-told g c = told_by c.args.answer.now c.in_default.not-Climb c.in_default.not-Cert
 
 pub returns-in_default-clause-leaves : goal.returns-in_default-clause-leaves
 returns-in_default-clause-leaves g c =
-    told_leaves c.args.answer c.args.desks.now c.args.steps.now
-    (told_by c.args.answer c.in_default.not-Climb c.in_default.not-Cert) c.requires.ready
+    told_leaves c.args.answer.now c.args.desks.now c.args.steps.now
+    (told_by c.args.answer.now c.in_default.not-Climb c.in_default.not-Cert) c.requires.ready
 
 pub returns-in_default-clause-prints : goal.returns-in_default-clause-prints
 returns-in_default-clause-prints g c =
     prints_same _ _ c.write_text.result _ _ c.write_text.ensures
-    (ap (λ (s : SessionValue). answer_text s c.args.answer) c.session.ensures)
+    (ap (λ (s : SessionValue). answer_text s c.args.answer.now) c.session.ensures)
