@@ -1,10 +1,9 @@
 -- One node more has no fault.
-use Rattle.std.proofs.Common.{◌≡◌, ℕ, ◌+◌, ◌*◌, ◌<◌, true, false, List, [], ◌∷◌, ◌++◌, length, map}
+use Rattle.std.proofs.Common.{◌≡◌, ℕ, ◌+◌, ◌*◌, ◌<◌, true, false, List, [], ◌∷◌, ◌++◌, length}
 use Rattle.std.proofs.Common.{Some, None, slice_get, nat_le, nat_eq, refl, ap, ◌∙◌}
 use Rattle.std.proofs.Common.{arith}
 use Rattle.std.proofs.lemmas.Bool.Decides.{nat_tests}
 use Rattle.std.proofs.lemmas.List.FromFn.{map-range_with_len_more, length-map-range_with_len}
-use Rattle.std.specs.List.{range_with_len}
 use Rattle.transyt_parts.specs.declared.node.Stage.{Stage}
 use Rattle.transyt_parts.specs.Parts.{NodeValue}
 use Rattle.transyt_parts.specs.Valid.{node_number, node_in_range, stage_in_range}
@@ -109,11 +108,11 @@ next_free town w place offset before inside at =
 pub node_done : (town : Town) (w : Works) (place o c : ℕ) (d f : DrawsValue) (e : Network) → w ≡ node_works town place
     → o ≡ draw w.draws.seed w.draws.taken 50 → d ≡ further w.draws 1 → c ≡ draw d.seed d.taken 21 → f ≡ further d 1
     → e ≡ plus_node w.draft (node_with place o (15 + c))
-    → record { town = town; draws = f; draft = e } ≡ node_works town (place + 1)
+    → record { town = w.town; draws = f; draft = e } ≡ node_works town (place + 1)
 node_done town w place o c d f e before first once second twice more =
     let start = ap (λ (x : Works). x.draws) before in
     let middle = one_more town.seed (2 * place) (2 * place + 1) _ _ start once (omega arith) in
     let draws = one_more town.seed (2 * place + 1) (2 * (place + 1)) _ _ middle twice (omega arith) in
     let draft = one_node town.seed place w.draft e o c (first ∙ ap (λ (x : DrawsValue). draw x.seed x.taken 50) start)
     (second ∙ ap (λ (x : DrawsValue). draw x.seed x.taken 21) middle) (ap (λ (x : Works). x.draft) before) more in
-    rw (draws, draft) refl
+    rw (draws, draft, before) refl

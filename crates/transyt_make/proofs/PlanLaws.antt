@@ -46,7 +46,7 @@ no_fault seed a (suc n) =
     rw (plan_free (15 + second) (omega arith) (omega (arith, small))) (no_fault seed (a + 1) n)
 
 -- with its climb plan the network is the one that is made
-planned : (seed n : ℕ) (d e : Network) → d ≡ with_feeds seed n (4 * n) → e ≡ with_plan d made_plan
+pub planned : (seed n : ℕ) (d e : Network) → d ≡ with_feeds seed n (4 * n) → e ≡ with_plan d made_plan
     → e ≡ made seed n
 unfolding made
 planned seed n d e fed plan =
@@ -55,13 +55,13 @@ planned seed n d e fed plan =
     rw (plan, fed, none, append-nil links)
 
 -- so the town that has its nodes, its links and their feeds is made
-pub filled : (town : Town) (a b c : Works) (e : Network) → a ≡ node_works town town.nodes
-    → b ≡ link_works a.town (4 * a.town.nodes) → c ≡ feed_works b.town (4 * b.town.nodes)
-    → e ≡ with_plan c.draft made_plan → e ≡ made town.seed town.nodes
-filled town a b c e nodes links feeds plan =
-    let same : b.town ≡ town = ap (λ (w : Works). w.town) links ∙ ap (λ (w : Works). w.town) nodes in
-    planned town.seed town.nodes c.draft e (
-    ap (λ (w : Works). w.draft) feeds ∙ ap (λ (t : Town). with_feeds t.seed t.nodes (4 * t.nodes)) same) plan
+pub filled : (town : Town) (a b d : Works) (e : Network) → a ≡ node_works town town.nodes
+    → b ≡ link_works a.town (4 * a.town.nodes) → d ≡ feed_works b.town (4 * b.town.nodes)
+    → e ≡ made d.town.seed d.town.nodes → e ≡ made town.seed town.nodes
+filled town a b d e nodes links feeds all =
+    let town_of : Works → Town = λ w. w.town in
+    let same : d.town ≡ town = ap town_of feeds ∙ ap town_of links ∙ ap town_of nodes in
+    all ∙ ap (λ (t : Town). made t.seed t.nodes) same
 
 -- so no plan of the network that is made has a fault
 pub made_planned : (seed n : ℕ) (d : Network) → d ≡ made seed n → first_fault d.frame.step_count d.nodes ≡ None

@@ -2,8 +2,8 @@
 ghost use Rattle.std.specs.Prelude.{◌≡◌, ◌<◌, length, None, OnOk};
 ghost use Rattle.transyt_parts.specs.Made.{new_stage};
 ghost use Rattle.transyt_net.specs.Faults.{node_fault, with_node, stage_fault, with_stage, link_fault, with_link};
-ghost use Rattle.transyt_net.specs.Faults.{feed_fault, with_feed, climb_fault, with_plan};
-ghost use Rattle.transyt_make.specs.Made.{link_with, made_plan};
+ghost use Rattle.transyt_net.specs.Faults.{feed_fault, with_feed};
+ghost use Rattle.transyt_make.specs.Made.{link_with};
 
 use crate::approach::Approach;
 use std::alloc::AllocError;
@@ -65,19 +65,6 @@ pub(crate) fn grant_feed(draft: &mut Draft, link: u32, feed: Feed) -> Result<(),
     ensures { OnOk result (draft.new ≡ with_feed draft.old link feed) }
 {
     match draft.feed(link, feed.feeder, feed.flow, feed.cruise) {
-        Ok(()) => Ok(()),
-        Err(DraftFault::Memory) => Err(AllocError),
-        Err(_) => unreachable!(),
-    }
-}
-
-/// Sets the climb plan.
-pub(crate) fn grant_plan(draft: &mut Draft) -> Result<(), AllocError>
-    requires unset { draft.old.plan ≡ None }
-    requires steps { draft.old.frame.step_count ≡ 50 }
-    ensures { OnOk result (draft.new ≡ with_plan draft.old made_plan) }
-{
-    match draft.plan(2000, &[1, 8, 20]) {
         Ok(()) => Ok(()),
         Err(DraftFault::Memory) => Err(AllocError),
         Err(_) => unreachable!(),

@@ -12,6 +12,7 @@ mod approach;
 mod draws;
 mod feeds;
 mod granted;
+mod junction;
 mod laws;
 mod links;
 mod making;

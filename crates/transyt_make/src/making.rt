@@ -1,18 +1,17 @@
 //! The making of a network.
-ghost use Rattle.std.specs.Prelude.{◌≡◌, ◌≤◌, IfOk, OnOk};
+ghost use Rattle.std.specs.Prelude.{◌≡◌, ◌≤◌, ◌*◌, IfOk, OnOk};
 ghost use Rattle.transyt_net.specs.Faults.{empty};
 ghost use Rattle.transyt_make.specs.Made.{made, made_frame};
-ghost use Rattle.transyt_make.specs.Works.{node_works};
+ghost use Rattle.transyt_make.specs.Works.{node_works, feed_works};
 
 use crate::draws::Draws;
 use crate::feeds::put_feeds;
-use crate::granted::grant_plan;
 use crate::links::put_links;
 use crate::nodes::put_nodes;
 use crate::town::Town;
 use crate::works::Works;
 use std::alloc::{AllocError, Global};
-use transyt_net::{Draft, Frame, Net};
+use transyt_net::{Draft, DraftFault, Frame, Net};
 
 /// A draft with nothing in it.
 fn empty(alloc: Global) -> Draft
@@ -43,6 +42,18 @@ fn begin(alloc: Global, town: Town) -> Works
     }
 }
 
+/// Gives a town its climb plan, which has all the rest.
+fn put_plan(works: &mut Works) -> Result<(), AllocError>
+    requires { works.old ≡ feed_works works.old.town (4 * works.old.town.nodes) }
+    ensures { OnOk result (works.new.draft ≡ made works.old.town.seed works.old.town.nodes) }
+{
+    match works.draft.plan(2000, &[1, 8, 20]) {
+        Ok(()) => Ok(()),
+        Err(DraftFault::Memory) => Err(AllocError),
+        Err(_) => unreachable!(),
+    }
+}
+
 /// Makes the nodes, the links, their feeds and the climb plan of a town of which nothing is made yet.
 fn fill(works: &mut Works) -> Result<(), AllocError>
     requires { works.old ≡ node_works works.old.town 0 }
@@ -51,7 +62,7 @@ fn fill(works: &mut Works) -> Result<(), AllocError>
     put_nodes(works)?;
     put_links(works)?;
     put_feeds(works)?;
-    grant_plan(&mut works.draft)
+    put_plan(works)
 }
 
 /// The network of a seed: so many junctions in rows of eight, each link but those from outside fed by the neighbour

@@ -1,20 +1,20 @@
 //! The nodes.
-ghost use Rattle.std.specs.Prelude.{◌≡◌, ◌<◌, ◌+◌, OnOk};
+ghost use Rattle.std.specs.Prelude.{◌≡◌, ◌+◌, OnOk};
 ghost use Rattle.transyt_make.specs.Works.{node_works};
 
 use crate::granted::{grant_node, grant_stage};
+use crate::junction::Junction;
 use crate::works::Works;
 use std::alloc::AllocError;
 
-/// Adds the node at a place, with its two stages.
-fn put_node(works: &mut Works, place: u32) -> Result<(), AllocError>
-    requires place { place < works.old.town.nodes }
-    requires before { works.old ≡ node_works works.old.town place }
-    ensures { OnOk result (works.new ≡ node_works works.old.town (place + 1)) }
+/// Adds the node of a junction, with its two stages.
+fn put_node(works: &mut Works, junction: Junction) -> Result<(), AllocError>
+    requires { works.old ≡ node_works junction.town junction.place }
+    ensures { OnOk result (works.new ≡ node_works junction.town (junction.place + 1)) }
 {
     let offset = works.draws.draw(50);
     let change = 15 + works.draws.draw(21);
-    grant_node(&mut works.draft, place + 1, offset)?;
+    grant_node(&mut works.draft, junction.place + 1, offset)?;
     grant_stage(&mut works.draft, 0)?;
     grant_stage(&mut works.draft, change)
 }
@@ -24,8 +24,9 @@ pub(crate) fn put_nodes(works: &mut Works) -> Result<(), AllocError>
     requires { works.old ≡ node_works works.old.town 0 }
     ensures { OnOk result (works.new ≡ node_works works.old.town works.old.town.nodes) }
 {
-    for place in 0..works.town.nodes {
-        put_node(works, place)?;
+    let town = works.town;
+    for place in 0..town.nodes {
+        put_node(works, Junction { town, place })?;
     }
     Ok(())
 }

@@ -6,6 +6,6 @@ use Rattle.transyt_make.proofs.nodes.put_nodes.Given as goal
 -- the nodes before this one are there
 abbrev pub invariant-loop-place : goal.invariant-loop-place
 invariant-loop-place l = record {
-  works : l.works ≡ node_works l.initial.works.town l.place;
-  within : l.place ≤ l.initial.works.town.nodes;
+  works : l.works ≡ node_works l.town l.place;
+  within : l.place ≤ l.town.nodes;
 }
