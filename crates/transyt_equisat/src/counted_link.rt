@@ -1,13 +1,12 @@
 //! A link that counts at a node.
 
-ghost use Rattle.std.specs.Prelude.{◌≡◌, ◌<◌, ◌≤◌, length, true, Some};
+ghost use Rattle.std.specs.Prelude.{◌≡◌, ◌<◌, ◌≤◌, length, true};
 ghost use Rattle.transyt_net.specs.Parts.{link_of};
 ghost use Rattle.transyt_equisat.specs.Degrees.{is_counted, degree};
 ghost use Rattle.transyt_equisat.specs.Peaks.{green_of};
 
 use crate::fraction::Fraction;
 use crate::node_greens::NodeGreens;
-use transyt_net::Net;
 
 /// A link that counts at a node: it runs there, in exactly one stage.
 #[derive(Clone, Copy)]

@@ -1,6 +1,6 @@
 //! The demand of one stage.
 
-ghost use Rattle.std.specs.Prelude.{◌≡◌, ◌<◌, ◌≤◌, length};
+ghost use Rattle.std.specs.Prelude.{◌≡◌, ◌<◌, length};
 ghost use Rattle.transyt_equisat.specs.Sharing.{green_by_demand, need_by_demand};
 
 use crate::asked::Asked;
