@@ -15,7 +15,6 @@ use Rattle.transyt_climb.specs.Turns.{noted as noted_by}
 use Rattle.transyt_climb.specs.Way.{IsRound}
 use Rattle.transyt_climb.proofs.TurnLaws.{by_look}
 use Rattle.transyt_desks.specs.declared.turns.Round.{Round}
-use Rattle.transyt_desks.specs.declared.batch.Batch.{Batch}
 use Rattle.transyt_desks.specs.declared.split.Split.{Split}
 use Rattle.transyt_desks.specs.declared.results.MadeMove.{MadeMove}
 use Rattle.transyt_desks.specs.declared.stretch.Stretch.{Stretch}
@@ -93,13 +92,6 @@ rounds_end places c desks last ready is end =
 -- the desks of a split try some places
 pub some_places : (split : Split) → 0 < split.desks.number * split.each
 some_places split = mul-pos split.desks.some split.some_each
-
--- so where a climb goes on, its next place is in the list
-pub place_inside : (c : Counters) (places : ℕ) (batch : Batch) → batch.place ≡ c.place → batch.count ≡ c.count
-    → batch.room ≡ room_of places c → 0 < places → c.since < c.count → c.looked < c.budget → c.place < c.count
-place_inside c places batch place count room some since looked =
-    let any : 0 < batch.room = omega (arith, room, some, since, looked) in
-    omega (arith, place, count, batch.place_within any)
 
 module _ (places : ℕ) (m : Machine) (s : Stretch) (ready : CanRound m.counters m.session)
     (place : m.counters.place < m.counters.count) (since : m.counters.since < m.counters.count)

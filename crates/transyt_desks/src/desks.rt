@@ -10,7 +10,7 @@ ghost use Rattle.transyt_moves.specs.Moves.{move_count};
 ghost use Rattle.transyt_session.specs.Session.{credited, opened, standing_for};
 ghost use Rattle.transyt_sweep.specs.Sweeps.{index};
 ghost use Rattle.transyt_track.specs.Due.{cert_work};
-ghost use Rattle.transyt_desks.specs.Rounds.{places_of, CanRound, MakesRound, RoundsDesks};
+ghost use Rattle.transyt_desks.specs.Rounds.{places_of, room_of, CanRound, MakesRound, RoundsDesks};
 
 use crate::batch::Batch;
 use crate::desk::{Desk, all_stand};
@@ -210,27 +210,28 @@ impl Desks {
         self.in_step = self.crew.len();
     }
 
-    /// Tries the moves of a batch at as many of the desks as it names, all at once, and gives them as a stretch, up to the
-    /// first that lowers the index. Desk 0 stands for the network with that move made then, with its work as it was.
-    fn try_batch<R: Threads + Sync, G: Gate>(
+    /// Tries the next moves of a climber's list, as many as a split gives to the desks that try, all at once, and gives them
+    /// as a stretch, up to the first that lowers the index. Desk 0 stands for the network with that move made then, with
+    /// its work as it was.
+    fn try_next<R: Threads + Sync, G: Gate>(
         &mut self,
         runner: &Runner<'_, R, G>,
-        batch: Batch,
+        split: Split,
+        climber: &Climber,
     ) -> Stretch
-        requires within { batch.desks ≤ length self.old }
+        requires within { split.desks.number ≤ length self.old }
         requires alike { AreAlike self.old }
-        requires closed { (desk_zero self.old).before ≡ None }
-        requires count { batch.count ≡ move_count (desk_zero self.old).net }
-        requires bound { batch.bound ≡ index (desk_zero self.old).net }
-        ensures tried { IsStretch (desk_zero self.old).net
-            batch.place batch.count batch.room result }
+        requires ready { CanRound climber.now (desk_zero self.old) }
+        ensures tried { IsStretch (desk_zero self.old).net climber.now.place climber.now.count
+            (room_of (split.desks.number * split.each) climber.now) result }
         ensures zero { desk_zero self.new
             ≡ standing_for (net_made result.made (desk_zero self.old).net) (desk_zero self.old) }
         ensures alike { AreAlike self.new }
         ensures workers { length self.new ≡ length self.old }
     {
-        let count = batch.desks as usize;
-        let batch = batch.with_known(count <= self.in_step);
+        let count = split.desks.number;
+        let next = batch_of(climber, split, self.zero.index());
+        let batch = next.with_known(count <= self.in_step);
         let tried = try_stretch(runner, &mut self.zero, self.crew.as_mut_slice(), batch);
         self.in_step = known_after(tried, count, self.in_step);
         tried
@@ -282,8 +283,7 @@ impl Desks {
         if let Some(last) = end_of(climber) {
             return Round { turns: 1, last };
         }
-        let batch = batch_of(climber, split, self.zero.index());
-        let tried = self.try_batch(runner, batch);
+        let tried = self.try_next(runner, split, climber);
         note_passed(climber, tried.passed);
         self.credit(tried.work);
         let Some(made) = tried.made else {

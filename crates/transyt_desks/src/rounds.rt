@@ -14,9 +14,11 @@ pub(crate) fn end_of(climber: &Climber) -> Option<Turn>
     ensures answer { (last : Turn) (s : SessionValue) → result ≡ Some last
         → last ≡ answer_of (machine climber.now s) }
     ensures end { (last : Turn) → result ≡ Some last → IsTrue (is_end last) }
+    ensures place { result ≡ None → climber.now.place < climber.now.count }
     ensures since { result ≡ None → climber.now.since < climber.now.count }
     ensures looked { result ≡ None → climber.now.looked < climber.now.budget }
 {
+    let _ = climber.place();
     if climber.since() == climber.count() {
         return Some(Turn::Local);
     }

@@ -7,9 +7,8 @@ use Rattle.transyt_session.specs.Session.{credited}
 use Rattle.transyt_desks.specs.declared.turns.Round.{Round}
 use Rattle.transyt_desks.specs.Desks.{desk_zero, AreAlike}
 use Rattle.transyt_desks.specs.Rounds.{MakesRound, RoundsDesks}
-use Rattle.transyt_desks.specs.Stretches.{IsStretch}
 use Rattle.transyt_desks.proofs.DeskLaws.{alike_lent, zero_set}
-use Rattle.transyt_desks.proofs.RoundLaws.{makes_passed, makes_step, place_inside, rounds_end, rounds_lent, some_places}
+use Rattle.transyt_desks.proofs.RoundLaws.{makes_passed, makes_step, rounds_end, rounds_lent, some_places}
 use Rattle.transyt_desks.proofs.desks.Desks.together.Goals as goal
 
 pub returns-in-Some : goal.returns-in-Some
@@ -21,44 +20,38 @@ returns-in-Some g c =
 pub returns-in_default-made : goal.returns-in_default-made
 returns-in_default-made g c =
     let olds = c.args.self.now in
-    let mids = c.try_batch-tried.new.self in
+    let mids = c.try_next-tried.new.self in
     let before = c.args.climber.now in
     let m : Machine = machine before (desk_zero olds) in
-    let tried = c.try_batch-tried.result in
-    let told = c.try_batch-tried.ensures in
-    let batch = c.batch_of-batch.result in
-    let batch_is = c.batch_of-batch.ensures in
+    let tried = c.try_next-tried.result in
+    let told = c.try_next-tried.ensures in
     let places = c.args.split.desks.number * c.args.split.each in
     let some : 0 < places = some_places c.args.split in
     let since = c.end_of.ensures.since c.in_default.is in
     let looked = c.end_of.ensures.looked c.in_default.is in
-    let place = place_inside before places batch batch_is.place batch_is.list batch_is.room some since looked in
-    let stretch = subst (λ p. p) (λ i. IsStretch m.session.net (batch_is.place i) (batch_is.list i) (batch_is.room i) tried) told.tried in
+    let place = c.end_of.ensures.place c.in_default.is in
     let session = credited tried.work (desk_zero mids) in
     let result : Round = record { turns = tried.passed; last = Passed } in
     subst (λ news. RoundsDesks places before olds c.note_passed.new.climber news result) (sym c.credit.ensures)
     (rounds_lent places places before c.note_passed.new.climber olds mids (desk_zero olds) session result refl
     (omega (arith, c.args.split.several, c.requires.within)) told.workers (λ _. told.alike) refl refl
-    (makes_passed places m tried c.requires.ready place since looked stretch c.note_passed.new.climber c.note_passed.ensures
+    (makes_passed places m tried c.requires.ready place since looked told.tried c.note_passed.new.climber c.note_passed.ensures
     session some c.in_default-made.is (ap (credited tried.work) told.zero)))
 
 pub returns : goal.returns
 returns g c =
     let olds = c.args.self.now in
-    let mids = c.try_batch-tried.new.self in
+    let mids = c.try_next-tried.new.self in
     let lent = c.credit.new.self in
     let before = c.args.climber.now in
     let m : Machine = machine before (desk_zero olds) in
-    let tried = c.try_batch-tried.result in
-    let told = c.try_batch-tried.ensures in
-    let batch = c.batch_of-batch.result in
-    let batch_is = c.batch_of-batch.ensures in
+    let tried = c.try_next-tried.result in
+    let told = c.try_next-tried.ensures in
     let places = c.args.split.desks.number * c.args.split.each in
     let some : 0 < places = some_places c.args.split in
     let since = c.end_of.ensures.since c.in_default.is in
     let looked = c.end_of.ensures.looked c.in_default.is in
-    let place = place_inside before places batch batch_is.place batch_is.list batch_is.room some since looked in
-    let stretch = subst (λ p. p) (λ i. IsStretch m.session.net (batch_is.place i) (batch_is.list i) (batch_is.room i) tried) told.tried in
+    let place = c.end_of.ensures.place c.in_default.is in
     let made = c.in-Some-made.made in
     let any : 0 < length olds = omega (arith, c.args.split.several, c.requires.within) in
     let mids_any : 0 < length mids = omega (arith, any, told.workers) in
@@ -73,6 +66,6 @@ returns g c =
     refl refl
     (subst (λ p. MakesRound places m (machine c.note.new.self session)
     (record { turns = tried.passed + 1; last = Took p made.edit made.index })) (sym c.place-place.ensures.value)
-    (makes_step places m tried c.requires.ready place since looked stretch c.note_passed.new.climber c.note_passed.ensures
+    (makes_step places m tried c.requires.ready place since looked told.tried c.note_passed.new.climber c.note_passed.ensures
     made c.in-Some-made.is c.note.new.self session c.note.ensures
     (ap (credited made.work) (lent_zero ∙ ap (credited tried.work) told.zero)))))
