@@ -83,9 +83,10 @@ class Told(unittest.TestCase):
     def setUp(self) -> None:
         self.worth = script()
         with open(os.path.join(ROOT, "examples", "sumo", "worth.md"), encoding="utf-8") as file:
-            rows = [[cell.strip() for cell in line.strip("|\n ").split("|")] for line in file if line.startswith("| ")]
-        self.plans = [row for row in rows if len(row) == 7][1:]
-        self.lasts = [row for row in rows if len(row) == 6][1:]
+            rows = [[cell.strip() for cell in line.rstrip("\n")[1:-1].split("|")] for line in file
+                    if line.startswith("| ")]
+        self.plans = [row for row in rows if len(row) == 7 and ": `" in row[0]]
+        self.lasts = [row for row in rows if len(row) == 6 and ": `" in row[0]]
         with open(os.path.join(ROOT, "docs", "GUIDE.md"), encoding="utf-8") as file:
             self.guide = next(line for line in file if line.startswith("**What a lower index is worth.**"))
 
