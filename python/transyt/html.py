@@ -20,14 +20,17 @@ dl { display: grid; grid-template-columns: max-content 1fr; gap: 0.1em 1em; } dd
 @media print { body { margin: 0; max-width: none; font-size: 10pt; } h2, svg, tr { break-inside: avoid; } }
 """
 SCRIPT = """
+const number = words => Number((/^[+-]?\\d+(\\.\\d+)?(?= |$)/.exec(words) || ['Infinity'])[0]);
+const less = (a, b) => a < b ? -1 : a > b ? 1 : 0;
+const compared = (a, b) => less(number(a), number(b)) || less(a, b);
 for (const table of document.querySelectorAll('table.sortable')) {
   table.querySelectorAll('thead th').forEach((head, column) => head.addEventListener('click', () => {
     const value = row => { const cell = row.cells[column], data = cell.querySelector('data');
-      return data ? Number(data.value) : cell.textContent; };
-    const rows = [...table.tBodies[0].rows], down = head.dataset.sorted === 'up';
-    rows.sort((a, b) => { const x = value(a), y = value(b); return (x < y ? -1 : x > y ? 1 : 0) * (down ? -1 : 1); });
+      return data ? data.value : cell.textContent; };
+    const rows = [...table.tBodies[0].rows], sign = head.dataset.sorted === 'up' ? -1 : 1;
+    rows.sort((a, b) => sign * compared(value(a), value(b)));
     table.querySelectorAll('thead th').forEach(other => delete other.dataset.sorted);
-    head.dataset.sorted = down ? 'down' : 'up';
+    head.dataset.sorted = sign < 0 ? 'down' : 'up';
     rows.forEach(row => table.tBodies[0].append(row));
   }));
 }
