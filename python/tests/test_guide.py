@@ -14,6 +14,7 @@ from transyt.sheets import All, make_deck, read_sheets
 from transyt.sheets.checking import balanced, checked
 
 GUIDE = os.path.join(ROOT, "examples", "guide")
+PAGE = os.path.join(ROOT, "docs", "GUIDE.md")
 
 
 @needs_program
@@ -38,6 +39,21 @@ class Guide(unittest.TestCase):
             write_folder(path, made_files(deck, program, Asked("Guide", "A. Engineer", "2026-04-02", GUIDE)))
             findings = Check(path, program).run()
         self.assertEqual([finding.sentence for finding in findings if not finding.holds], [])
+
+
+@unittest.skipUnless(os.path.isfile(PAGE), "the documents aren't beside the package")
+class Told(unittest.TestCase):
+    """What docs/GUIDE.md shows."""
+
+    def test_each_line_is_copied(self) -> None:
+        """Of its blocks after the sketch each line stands in run.report or in the deck; `$` begins what is typed."""
+        copied = support.example("guide/run.report") + support.example("guide/two-junctions.deck")
+        there = {"..", *(line.strip() for line in copied.split("\n"))}
+        with open(PAGE, encoding="utf-8") as file:
+            _, *blocks = file.read().split("```")[1::2]
+        self.assertGreater(len(blocks), 20)
+        shown = [line.strip() for block in blocks for line in block.split("\n")[1:]]
+        self.assertEqual([line for line in shown if line and line not in there and line[0] != "$"], [])
 
 
 if __name__ == "__main__":
