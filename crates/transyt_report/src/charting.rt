@@ -1,7 +1,7 @@
 //! CHART.
 ghost use Rattle.std.specs.Prelude.{◌≡◌, ◌≤◌, ◌<◌, ◌+◌, ◌++◌, length};
 ghost use Rattle.transyt_io.specs.Prints.{PrintsOn};
-ghost use Rattle.transyt_report.specs.Chart.{step_mark, cycle_marks, chart_line, chart_line_at, chart_end, chart_text};
+ghost use Rattle.transyt_report.specs.Chart.{step_mark, cycle_marks, chart_line_at, chart_text};
 
 use crate::session_link::SessionLink;
 use transyt_io::{Failed, LineBuffer, Parts, Sink, print_form, print_parts, put_form, write_line};
@@ -33,35 +33,16 @@ fn put_cycle(go: &[u64], queue: &[u64], line: &mut LineBuffer)
     }
 }
 
-/// The line becomes that of a link of this number.
+/// The line becomes that of a link.
 #[tactic(auto, unfolding(crate::specs::Chart::chart_line))]
-fn set_link(number: u32, go: &[u64], queue: &[u64], line: &mut LineBuffer)
-    requires few { length go.now ≤ 120 }
-    requires queue { length queue.now ≡ length go.now }
-    ensures text { line.new ≡ chart_line number go.now queue.now }
+fn set_link(link: &SessionLink, line: &mut LineBuffer)
+    ensures text { line.new ≡ chart_line_at link.now.session.now.net link.now.place }
     ensures some { 0 < length line.new }
 {
     line.clear();
-    put_form(b"CHART # ", &[u128::from(number)], line);
-    put_cycle(go, queue, line);
+    put_form(b"CHART # ", &[u128::from(link.number())], line);
+    put_cycle(link.go(), link.queue(), line);
     line.put(b"\n");
-}
-
-/// Writes the line of a link of this number.
-fn print_cycle<K: Sink>(
-    number: u32,
-    go: &[u64],
-    queue: &[u64],
-    line: &mut LineBuffer,
-    sink: &mut K,
-) -> Result<(), Failed>
-    requires few { length go.now ≤ 120 }
-    requires queue { length queue.now ≡ length go.now }
-    ensures { PrintsOn K.written K.faults sink.old sink.new result
-        (chart_line number go.now queue.now) }
-{
-    set_link(number, go, queue, line);
-    write_line(line, sink)
 }
 
 /// The lines of the links in CHART.
@@ -88,19 +69,13 @@ impl Parts for ChartLines<'_> {
     ) -> Result<(), Failed> {
         let session = self.session;
         let link = SessionLink { session, place };
-        print_cycle(link.number(), link.go(), link.queue(), line, sink)
+        set_link(&link, line);
+        write_line(line, sink)
     }
 }
 
-/// Writes the last line.
-#[tactic(auto, unfolding(crate::specs::Chart::chart_end))]
-fn print_end<K: Sink>(line: &mut LineBuffer, sink: &mut K) -> Result<(), Failed>
-    ensures { PrintsOn K.written K.faults sink.old sink.new result chart_end }
-{
-    print_form(b"END CHART", &[], line, sink)
-}
-
 /// Writes CHART.
+#[tactic(auto, using(transyt_io::proofs::PrintLaws::prints_front))]
 pub(crate) fn print_chart<K: Sink>(
     session: &Session,
     line: &mut LineBuffer,
@@ -109,5 +84,5 @@ pub(crate) fn print_chart<K: Sink>(
     ensures { PrintsOn K.written K.faults sink.old sink.new result (chart_text session.now.net) }
 {
     print_parts(&ChartLines { session }, line, sink)?;
-    print_end(line, sink)
+    print_form(b"END CHART", &[], line, sink)
 }

@@ -6,7 +6,7 @@ ghost use Rattle.transyt_report.specs.Measures.{figures_report};
 
 use crate::measures::{LinkFigures, link_figures};
 use crate::session_link::SessionLink;
-use crate::totals::{NetworkFigures, network_figures};
+use crate::totals::network_figures;
 use transyt_io::{Failed, LineBuffer, Parts, Sink, print_form, print_parts};
 use transyt_session::Session;
 
@@ -63,12 +63,14 @@ impl Parts for FiguresLines<'_> {
 /// Writes the last line.
 #[tactic(auto, unfolding(crate::specs::Measures::total_line))]
 fn print_total<K: Sink>(
-    figures: NetworkFigures,
+    session: &Session,
     line: &mut LineBuffer,
     sink: &mut K,
 ) -> Result<(), Failed>
-    ensures { PrintsOn K.written K.faults sink.old sink.new result (total_line figures) }
+    ensures { PrintsOn K.written K.faults sink.old sink.new result
+        (total_line (network_figures session.now.net)) }
 {
+    let figures = network_figures(session);
     let numbers = [
         figures.delay,
         figures.stops,
@@ -79,19 +81,8 @@ fn print_total<K: Sink>(
     print_form(form, &numbers, line, sink)
 }
 
-/// Writes the last line of the network now.
-fn print_network<K: Sink>(
-    session: &Session,
-    line: &mut LineBuffer,
-    sink: &mut K,
-) -> Result<(), Failed>
-    ensures { PrintsOn K.written K.faults sink.old sink.new result
-        (total_line (network_figures session.now.net)) }
-{
-    print_total(network_figures(session), line, sink)
-}
-
 /// Writes FIGURES.
+#[tactic(auto, using(transyt_io::proofs::PrintLaws::prints_front))]
 pub(crate) fn print_report<K: Sink>(
     session: &Session,
     line: &mut LineBuffer,
@@ -101,5 +92,5 @@ pub(crate) fn print_report<K: Sink>(
         (figures_report session.now.net) }
 {
     print_parts(&FiguresLines { session }, line, sink)?;
-    print_network(session, line, sink)
+    print_total(session, line, sink)
 }

@@ -19,7 +19,6 @@ mod measures;
 mod moves;
 mod plot_laws;
 mod plotting;
-mod profiles;
 mod session_link;
 mod showing;
 mod timing;

@@ -2,7 +2,7 @@
 ghost use Rattle.std.specs.Prelude.{◌≡◌, ◌<◌, length};
 ghost use Rattle.transyt_io.specs.Prints.{PrintsOn};
 ghost use Rattle.transyt_sweep.specs.Sweeps.{index};
-ghost use Rattle.transyt_report.specs.Texts.{index_line, link_line, links_text, timing_text, in_line, go_line, out_line, queue_line};
+ghost use Rattle.transyt_report.specs.Texts.{index_line, link_line, links_text, in_line, go_line, out_line, queue_line};
 ghost use Rattle.transyt_report.specs.Texts.{profile_text, work_line, report_text, IsOfPlace};
 
 use crate::charting::print_chart;
@@ -85,6 +85,7 @@ impl Parts for LinkLines<'_> {
 }
 
 /// Writes LINKS.
+#[tactic(auto, using(transyt_io::proofs::PrintLaws::prints_front))]
 fn print_links<K: Sink>(
     session: &Session,
     line: &mut LineBuffer,
@@ -162,17 +163,6 @@ fn print_work<K: Sink>(session: &Session, line: &mut LineBuffer, sink: &mut K) -
     print_form(b"WORK #", &[u128::from(session.work())], line, sink)
 }
 
-/// Writes TIMING.
-fn print_plans<K: Sink>(
-    session: &Session,
-    line: &mut LineBuffer,
-    sink: &mut K,
-) -> Result<(), Failed>
-    ensures { PrintsOn K.written K.faults sink.old sink.new result (timing_text session.now.net) }
-{
-    print_timing(session.net(), line, sink)
-}
-
 /// Appends the text of a report of the network now, each line handed to `write` in one piece. Values of profiles and
 /// queues are in millionths of a vehicle, one for each step of the cycle from step 0.
 ///
@@ -192,7 +182,7 @@ pub fn show<K: Sink>(
         Report::Index => print_index(session, line, sink),
         Report::Links => print_links(session, line, sink),
         Report::Figures => print_report(session, line, sink),
-        Report::Timing => print_plans(session, line, sink),
+        Report::Timing => print_timing(session, line, sink),
         Report::Profile { link: place } => print_profile(
             &SessionLink { session, place },
             line,

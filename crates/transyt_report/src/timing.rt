@@ -2,11 +2,12 @@
 ghost use Rattle.std.specs.Prelude.{◌≡◌, ◌<◌, ◌≤◌, ◌+◌, ◌%◌, length};
 ghost use Rattle.transyt_net.specs.Parts.{node_of};
 ghost use Rattle.transyt_io.specs.Prints.{PrintsOn};
-ghost use Rattle.transyt_report.specs.Texts.{stage_line, node_line, node_text, node_text_at, timing_end, timing_text};
+ghost use Rattle.transyt_report.specs.Texts.{stage_line, node_line, node_text, node_text_at, timing_text};
 
 use transyt_io::{Failed, LineBuffer, Parts, Sink, print_form, print_parts};
 use transyt_net::{Net, Node};
 use transyt_parts::stage_length;
+use transyt_session::Session;
 
 /// The node at a place.
 fn node_at(net: &Net, place: usize) -> &Node
@@ -81,33 +82,33 @@ fn print_number<K: Sink>(node: &Node, line: &mut LineBuffer, sink: &mut K) -> Re
 }
 
 /// Writes the lines of a node and its stages.
+#[tactic(auto, using(transyt_io::proofs::PrintLaws::prints_front))]
 fn print_node<K: Sink>(
-    steps: u32,
-    node: &Node,
+    stages: &StageLines,
     line: &mut LineBuffer,
     sink: &mut K,
 ) -> Result<(), Failed>
-    requires steps { 0 < steps }
-    requires few { length node.now.stages ≤ 8 }
-    ensures { PrintsOn K.written K.faults sink.old sink.new result (node_text steps node.now) }
+    ensures { PrintsOn K.written K.faults sink.old sink.new result
+        (node_text stages.now.steps stages.now.node.now) }
 {
-    print_number(node, line, sink)?;
-    print_parts(&StageLines { steps, node }, line, sink)
+    print_number(stages.node, line, sink)?;
+    print_parts(stages, line, sink)
 }
 
 /// The lines of each node and its stages.
 #[derive(Clone, Copy)]
 struct NodeLines<'a> {
-    net: &'a Net,
+    session: &'a Session,
 }
 
 impl Parts for NodeLines<'_> {
-    ghost number = { λ self. length self.net.now.nodes };
+    ghost number = { λ self. length self.session.now.net.nodes };
 
-    ghost text = { λ self. node_text_at self.net.now };
+    ghost text = { λ self. node_text_at self.session.now.net };
 
     fn count(&self) -> usize {
-        self.net.nodes().len()
+        let net = self.session.net();
+        net.nodes().len()
     }
 
     fn print<K: Sink>(
@@ -116,27 +117,25 @@ impl Parts for NodeLines<'_> {
         line: &mut LineBuffer,
         sink: &mut K,
     ) -> Result<(), Failed> {
-        let frame = self.net.frame();
-        print_node(frame.step_count, node_at(self.net, place), line, sink)
+        let net = self.session.net();
+        let frame = net.frame();
+        let stages = StageLines {
+            steps: frame.step_count,
+            node: node_at(net, place),
+        };
+        print_node(&stages, line, sink)
     }
 }
 
-/// Writes the last line.
-#[tactic(auto, unfolding(crate::specs::Texts::timing_end))]
-fn print_end<K: Sink>(line: &mut LineBuffer, sink: &mut K) -> Result<(), Failed>
-    ensures { PrintsOn K.written K.faults sink.old sink.new result timing_end }
-{
-    print_form(b"END TIMING", &[], line, sink)
-}
-
 /// Writes TIMING.
+#[tactic(auto, using(transyt_io::proofs::PrintLaws::prints_front))]
 pub(crate) fn print_timing<K: Sink>(
-    net: &Net,
+    session: &Session,
     line: &mut LineBuffer,
     sink: &mut K,
 ) -> Result<(), Failed>
-    ensures { PrintsOn K.written K.faults sink.old sink.new result (timing_text net.now) }
+    ensures { PrintsOn K.written K.faults sink.old sink.new result (timing_text session.now.net) }
 {
-    print_parts(&NodeLines { net }, line, sink)?;
-    print_end(line, sink)
+    print_parts(&NodeLines { session }, line, sink)?;
+    print_form(b"END TIMING", &[], line, sink)
 }
