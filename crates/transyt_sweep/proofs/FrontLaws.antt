@@ -58,14 +58,11 @@ module _ (net : Network) (f g : ℕ → ℕ → List ℕ) (s l : ℕ) (rows : Ro
       by : (t k : ℕ) → t ≤ net.frame.sweeps → k < length net.links → (t ≡ s) ⊎ (t ≡ s → ⊥) → (k ≡ l) ⊎ (k ≡ l → ⊥)
           → out_at (with_out rows s l x) t k ≡ (if is_before t k s (l + 1) then f t k else g t k)
       by t k within there (inl sweep) (inl link) =
-          ap (λ u. out_at (with_out rows s l x) u k) sweep
-          ∙ ap (out_at (with_out rows s l x) s) link
+          (λ j. out_at (with_out rows s l x) (sweep j) (link j))
           ∙ out_here rows kept s l (omega (arith, mixed.fits.sweeps)) inside_in x
           ∙ made
-          ∙ ap (f s) (sym link)
-          ∙ ap (λ u. f u k) (sym sweep)
-          ∙ sym (ap (λ b. cond b (f t k) (g t k))
-          (ap (λ u. is_before u k s (l + 1)) sweep ∙ ap (λ u. is_before s u s (l + 1)) link ∙ before_self s l))
+          ∙ sym (λ j. f (sweep j) (link j))
+          ∙ sym (ap (λ b. cond b (f t k) (g t k)) ((λ j. is_before (sweep j) (link j) s (l + 1)) ∙ before_self s l))
       by t k within there (inl sweep) (inr other) = elsewhere t k within there (λ _ e. other e)
       by t k within there (inr other) _ = elsewhere t k within there (λ e _. other e)
 

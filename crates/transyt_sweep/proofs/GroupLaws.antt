@@ -1,5 +1,5 @@
 -- Platoons of a group: the first three or four of four.
-use Rattle.std.proofs.Common.{◌≡◌, ℕ, ◌-◌, ◌<◌, ◌≤◌, List, [], ◌∷◌, length, take, get_or, ap, ◌∙◌, arith}
+use Rattle.std.proofs.Common.{◌≡◌, ℕ, ◌-◌, ◌<◌, ◌≤◌, List, [], ◌∷◌, length, take, get_or, arith}
 use Rattle.std.specs.List.{All}
 use Rattle.std.proofs.lemmas.List.{length-take-le}
 use Rattle.std.proofs.lemmas.List.Elements.{All-nil, All-cons, All-take}
@@ -29,22 +29,18 @@ few_taken count a b c d group =
     omega (arith, group, length-take-le count (a ∷ b ∷ c ∷ d ∷ []) group.few)
 
 -- what they bring is what the factors of the slots bring, whose last has the fourth
-pub group_carried : (read : ℕ → List ℕ) (come : List ℕ) (slots : List Factors) (k l m n : Factors) (a b c d : Platoon)
-    → IsGroup (length slots) → arriving a ≡ carried read (get_or slots 0 k)
-    → arriving b ≡ carried read (get_or slots 1 l) → arriving c ≡ carried read (get_or slots 2 m)
-    → arriving d ≡ carried read (get_or slots (length slots - 1) n)
+pub group_carried : (read : ℕ → List ℕ) (come : List ℕ) (slots : List Factors) (a b c d : Platoon)
+    → IsGroup (length slots) → ((none : Factors) → arriving a ≡ carried read (get_or slots 0 none))
+    → ((none : Factors) → arriving b ≡ carried read (get_or slots 1 none))
+    → ((none : Factors) → arriving c ≡ carried read (get_or slots 2 none))
+    → ((none : Factors) → arriving d ≡ carried read (get_or slots (length slots - 1) none))
     → with_arriving come (take (length slots) (a ∷ b ∷ c ∷ d ∷ [])) ≡ with_carried read come slots
-group_carried read come [] k l m n a b c d group first second third fourth = absurd (omega (arith, group.some))
-group_carried read come (s ∷ []) k l m n a b c d group first second third fourth = absurd (omega (arith, group.some))
-group_carried read come (s ∷ t ∷ []) k l m n a b c d group first second third fourth = absurd (omega (arith, group.some))
-group_carried read come (s ∷ t ∷ u ∷ []) k l m n a b c d group first second third fourth =
-    ap (λ p. added (added (added come p) (arriving b)) (arriving c)) first
-    ∙ ap (λ p. added (added (added come (carried read s)) p) (arriving c)) second
-    ∙ ap (added (added (added come (carried read s)) (carried read t))) third
-group_carried read come (s ∷ t ∷ u ∷ v ∷ []) k l m n a b c d group first second third fourth =
-    ap (λ p. added (added (added (added come p) (arriving b)) (arriving c)) (arriving d)) first
-    ∙ ap (λ p. added (added (added (added come (carried read s)) p) (arriving c)) (arriving d)) second
-    ∙ ap (λ p. added (added (added (added come (carried read s)) (carried read t)) p) (arriving d)) third
-    ∙ ap (added (added (added (added come (carried read s)) (carried read t)) (carried read u))) fourth
-group_carried read come (s ∷ t ∷ u ∷ v ∷ w ∷ more) k l m n a b c d group first second third fourth =
+group_carried read come [] a b c d group first second third fourth = absurd (omega (arith, group.some))
+group_carried read come (s ∷ []) a b c d group first second third fourth = absurd (omega (arith, group.some))
+group_carried read come (s ∷ t ∷ []) a b c d group first second third fourth = absurd (omega (arith, group.some))
+group_carried read come (s ∷ t ∷ u ∷ []) a b c d group first second third fourth =
+    (λ j. added (added (added come (first s j)) (second s j)) (third s j))
+group_carried read come (s ∷ t ∷ u ∷ v ∷ []) a b c d group first second third fourth =
+    (λ j. added (added (added (added come (first s j)) (second s j)) (third s j)) (fourth s j))
+group_carried read come (s ∷ t ∷ u ∷ v ∷ w ∷ more) a b c d group first second third fourth =
     absurd (omega (arith, group.few))

@@ -24,33 +24,30 @@ feeds_more net read come feeds i d now new inside before sum =
     ∙ sym (fold_more (λ c f. added c (brought net read f)) come feeds i d inside)
 
 -- some feeds more
-pub feeds_next : (net : Network) (read : ℕ → List ℕ) (come : List ℕ) (feeds next : List Feed) (p n : ℕ)
-    (now new : List ℕ) → next ≡ take n (drop p feeds)
+pub feeds_next : (net : Network) (read : ℕ → List ℕ) (come : List ℕ) (feeds : List Feed) (p n : ℕ) (now new : List ℕ)
     → now ≡ with_feeds net read come (take p feeds)
-    → new ≡ with_feeds net read now next
+    → new ≡ with_feeds net read now (take (p + n - p) (drop p feeds))
     → new ≡ with_feeds net read come (take (p + n) feeds)
-feeds_next net read come feeds next p n now new is_next before sum =
+feeds_next net read come feeds p n now new before sum =
+    let count : p + n - p ≡ n = omega arith in
     sum
-    ∙ ap (λ c. with_feeds net read c next) before
-    ∙ ap (with_feeds net read (with_feeds net read come (take p feeds))) is_next
+    ∙ (λ j. with_feeds net read (before j) (take (count j) (drop p feeds)))
     ∙ sym (fold-append (λ c f. added c (brought net read f)) come (take p feeds) (take n (drop p feeds)))
     ∙ ap (with_feeds net read come) (sym (take-add p n feeds))
 
 -- as many feeds as are left from a place on are all from there on
-pub all_left : (p : ℕ) (feeds : List Feed) → take (length feeds - p) (drop p feeds) ≡ drop p feeds
+all_left : (p : ℕ) (feeds : List Feed) → take (length feeds - p) (drop p feeds) ≡ drop p feeds
 all_left p feeds =
     ap (λ n. take n (drop p feeds)) (sym (length-drop p feeds)) ∙ take-length (drop p feeds)
 
 -- and all that are left
-pub feeds_rest : (net : Network) (read : ℕ → List ℕ) (come : List ℕ) (feeds rest : List Feed) (p : ℕ)
-    (now new : List ℕ) → rest ≡ drop p feeds
+pub feeds_rest : (net : Network) (read : ℕ → List ℕ) (come : List ℕ) (feeds : List Feed) (p : ℕ) (now new : List ℕ)
     → now ≡ with_feeds net read come (take p feeds)
-    → new ≡ with_feeds net read now rest
+    → new ≡ with_feeds net read now (take (length feeds - p) (drop p feeds))
     → new ≡ with_feeds net read come feeds
-feeds_rest net read come feeds rest p now new is_rest before sum =
+feeds_rest net read come feeds p now new before sum =
     sum
-    ∙ ap (λ c. with_feeds net read c rest) before
-    ∙ ap (with_feeds net read (with_feeds net read come (take p feeds))) is_rest
+    ∙ (λ j. with_feeds net read (before j) (all_left p feeds j))
     ∙ sym (fold-append (λ c f. added c (brought net read f)) come (take p feeds) (drop p feeds))
     ∙ ap (with_feeds net read come) (take-append-drop p feeds)
 
@@ -114,7 +111,4 @@ pub brought_by : (net : Network) (read : ℕ → List ℕ) (f : Feed) (part out 
     → time ≡ travel_steps f.cruise net.frame.step_count net.frame.cycle → percent ≡ net.frame.dispersion
     → out ≡ brought net read f
 brought_by net read f part out time percent made is_part is_time is_percent =
-    made
-    ∙ ap (λ x. dispersed x time percent) is_part
-    ∙ ap (λ t. dispersed (taken net read f) t percent) is_time
-    ∙ ap (dispersed (taken net read f) (travel_steps f.cruise net.frame.step_count net.frame.cycle)) is_percent
+    made ∙ (λ j. dispersed (is_part j) (is_time j) (is_percent j))

@@ -3,9 +3,7 @@ use Rattle.std.proofs.Common.{◌≡◌, ℕ, suc, List, [], ◌∷◌}
 use Rattle.std.proofs.Common.{refl, ap, ◌∙◌, arith}
 use Rattle.transyt_profile.specs.Profile.{shared, added}
 use Rattle.transyt_parts.specs.declared.link.Feed.{Feed}
-use Rattle.transyt_parts.specs.Parts.{total_flow}
-use Rattle.transyt_net.specs.Parts.{Network, link_of}
-use Rattle.transyt_net.specs.Valid.{link_place}
+use Rattle.transyt_net.specs.Parts.{Network}
 use Rattle.transyt_sweep.specs.Cell.{taken, brought}
 use Rattle.transyt_sweep.specs.Inflow.{ServeIn, taken_by, AreServed, Served, carried, with_carried, with_feeds}
 use Rattle.transyt_sweep.specs.declared.factors.Factors.{Factors}
@@ -15,9 +13,7 @@ use Rattle.transyt_sweep.proofs.InflowLaws.{brought_by}
 pub taken_served : (net : Network) (read : ℕ → List ℕ) (f : Feed) (factors : Factors) → ServeIn net f factors
     → taken_by read factors ≡ taken net read f
 taken_served net read f factors serve =
-    ap (λ p. shared p factors.part.whole (read factors.feeder)) serve.flow
-    ∙ ap (λ w. shared f.flow w (read factors.feeder)) serve.whole
-    ∙ ap (λ l. shared f.flow (total_flow (link_of net (link_place net f.feeder))) (read l)) serve.feeder
+    (λ j. shared (serve.flow j) (serve.whole j) (read (serve.feeder j)))
 
 -- so the arrivals by them are those of the feed
 pub carried_served : (net : Network) (read : ℕ → List ℕ) (f : Feed) (factors : Factors)

@@ -27,8 +27,7 @@ shown_put net s l rows c fits kept shown swept inside made k there before =
         → shown_at (placed rows s l c) k ≡ evaluated net k
     by (inl last) which =
         let test : (s == rows.sweeps) ≡ true = grind (arith, nat_tests) in
-        ap (λ b. shown_at (cond b (with_rest (with_out rows s l c.out) l c) (with_out rows s l c.out)) k) test
-        ∙ ap (λ u. shown_at (with_rest (with_out rows u l c.out) l c) k) last
+        (λ j. shown_at (cond (test j) (with_rest (with_out rows (last j) l c.out) l c) (with_out rows s l c.out)) k)
         ∙ at which
       where
         at : (k ≡ l) ⊎ (k ≡ l → ⊥) → shown_at (put_shown rows l c) k ≡ evaluated net k

@@ -20,7 +20,6 @@ use crate::cell_rows::CellRows;
 use crate::factors::Factors;
 use crate::feeds::{Feeds, OneFeed, Sendable};
 use crate::inputs::Inputs;
-use crate::sending::platoon;
 use transyt_net::Feed;
 use transyt_profile::{
     Group, add_to_first, disperse, disperse_together, fold_into, start_turns, travel_steps,
@@ -64,17 +63,16 @@ impl Sendable<'_> {
             → All (λ v. v < limit + 4 * 2 ^ 22) (folded self.now.inputs.now.step_count turns.new) }
         ensures stays { (IsTrue result → ⊥) → turns.new ≡ turns.old }
     {
-        let Sendable { inputs, slots } = *self;
-        let last = slots.len() - 1;
+        let count = self.slots.len();
         let platoons = [
-            platoon(inputs, &slots[0]),
-            platoon(inputs, &slots[1]),
-            platoon(inputs, &slots[2]),
-            platoon(inputs, &slots[last]),
+            self.platoon(0),
+            self.platoon(1),
+            self.platoon(2),
+            self.platoon(count - 1),
         ];
         let group = Group {
-            step_count: inputs.step_count,
-            platoons: &platoons[..slots.len()],
+            step_count: self.inputs.step_count,
+            platoons: &platoons[..count],
         };
         disperse_together(&group, lanes, turns)
     }

@@ -1,13 +1,14 @@
 //! The part of a feeder's departures that goes on to a link.
 
-ghost use Rattle.std.specs.Prelude.{◌≡◌, ◌^◌, ◌<◌, ◌≤◌, length, All, IsTrue};
+ghost use Rattle.std.specs.Prelude.{◌≡◌, ◌^◌, ◌<◌, length, slice_index_or, All, IsTrue};
 ghost use Rattle.transyt_net.specs.Valid.{link_place};
 ghost use Rattle.transyt_profile.specs.Arriving.{arriving};
 ghost use Rattle.transyt_sweep.specs.Cell.{taken};
-ghost use Rattle.transyt_sweep.specs.Inflow.{AreFactors, AreSendable, Served, carried, read_by};
+ghost use Rattle.transyt_sweep.specs.declared.factors.Factors.{Factors};
+ghost use Rattle.transyt_sweep.specs.Inflow.{AreFactors, Served, carried, read_by};
 
 use crate::factors::Factors;
-use crate::feeds::OneFeed;
+use crate::feeds::{OneFeed, Sendable};
 use crate::inputs::Inputs;
 use crate::source::Source;
 use transyt_net::Net;
@@ -82,15 +83,20 @@ impl OneFeed<'_> {
     }
 }
 
-/// The platoon of a feed, by the feed's factors.
-pub(crate) fn platoon<'a>(inputs: &Inputs<'a>, factors: &'a Factors) -> Platoon<'a>
-    requires { AreSendable inputs.now factors.now }
-    ensures steps { length result.leaving.now ≡ inputs.now.step_count }
-    ensures brings { arriving result ≡ carried (read_by inputs.now) factors.now }
-{
-    Platoon {
-        leaving: inputs.read(factors.feeder),
-        part: &factors.part,
-        travel: &factors.travel,
+impl<'a> Sendable<'a> {
+    /// The platoon of the feed whose factors are at a place.
+    pub(crate) fn platoon(&self, place: usize) -> Platoon<'a>
+        requires { place < length self.now.slots.now }
+        ensures steps { length result.leaving.now ≡ self.now.inputs.now.step_count }
+        ensures brings { (none : Factors) → arriving result
+            ≡ carried (read_by self.now.inputs.now) (slice_index_or self.now.slots.now place none) }
+    {
+        let Sendable { inputs, slots } = *self;
+        let factors = &slots[place];
+        Platoon {
+            leaving: inputs.read(factors.feeder),
+            part: &factors.part,
+            travel: &factors.travel,
+        }
     }
 }

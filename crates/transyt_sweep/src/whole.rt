@@ -1,10 +1,9 @@
 //! The whole evaluation of a network.
 
-ghost use Rattle.std.specs.Prelude.{◌≡◌, ◌+◌, ◌*◌, ◌<◌, ◌≤◌, length, IfOk, OnOk, OnErr, None};
+ghost use Rattle.std.specs.Prelude.{◌≡◌, ◌+◌, ◌*◌, length, IfOk, OnOk, OnErr, None};
 ghost use Rattle.transyt_sweep.specs.Sweeps.{index};
 ghost use Rattle.transyt_kept.specs.Rows.{index_in};
 ghost use Rattle.transyt_sweep.specs.Front.{AreFilled, AreEvaluation};
-ghost use Rattle.transyt_sweep.specs.Opened.{AreOpened};
 
 use crate::rows::RowsOfNetwork;
 use crate::scratch::Scratch;
@@ -34,23 +33,12 @@ pub fn full<L: Ledger>(alloc: Global, net: &Net, steps: &mut Steps<L>) -> Result
             return Err(fault);
         }
     };
-    fill(net, &mut rows, &mut scratch, steps);
-    drop(scratch);
-    Ok(rows)
-}
-
-/// Works out each link at each sweep.
-fn fill<L: Ledger>(net: &Net, rows: &mut Rows, scratch: &mut Scratch, steps: &mut Steps<L>)
-    requires opened { AreOpened net.now rows.old.now }
-    requires step_count { length scratch.old.arrivals ≡ net.now.frame.step_count }
-    ensures rows { AreEvaluation net.now rows.new.now }
-    ensures marked { rows.new.marked ≡ rows.old.marked }
-    ensures steps { steps.new ≡ steps.old + net.now.frame.sweeps * length net.now.links }
-{
     for sweep in 1..net.frame().sweeps + 1 {
         let one = Sweep { net, number: sweep };
-        one.fill(rows, scratch, steps);
+        one.fill(&mut rows, &mut scratch, steps);
     }
+    drop(scratch);
+    Ok(rows)
 }
 
 impl Sweep<'_> {

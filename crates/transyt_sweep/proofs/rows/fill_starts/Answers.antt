@@ -13,10 +13,6 @@ loop-link-init c = record {
   unmarked = ap (λ (v : KeptValue). v.marked) c.requires;
 }
 
--- the rows have the network's numbers
-pub start-requires-clause-fits : goal.start-requires-clause-fits
-start-requires-clause-fits c = c.loop-link.invariant.started.outs.fits
-
 -- one more is
 pub loop-link-preserved : goal.loop-link-preserved
 loop-link-preserved c = record {

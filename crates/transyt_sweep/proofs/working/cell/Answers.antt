@@ -32,19 +32,16 @@ fill_inflow-requires-clause-kept g c =
     (subst (All (AreFactors (length c.scratch.inside.rows.arrivals.items))) (sym c.deref_mut.ensures.value)
     c.scratch.invariant.right)
 
-pub fill_inflow-requires-clause-room_len : goal.fill_inflow-requires-clause-room_len
-fill_inflow-requires-clause-room_len g c =
-    ap length c.deref_mut-2.ensures.value
-    ∙ c.scratch.invariant.room_len
-    ∙ ap (λ (v : CellValue). 8 * length v.arrivals) c.scratch.view_is
-    ∙ ap (λ n. 8 * n) c.requires.step_count
-    ∙ ap (λ (f : Frame). 8 * f.step_count) (sym c.frame.ensures.value)
-
 pub fill_inflow-requires-clause-steps : goal.fill_inflow-requires-clause-steps
 fill_inflow-requires-clause-steps g c =
     ap (λ (v : CellValue). length v.arrivals) c.scratch.view_is
     ∙ c.requires.step_count
     ∙ ap (λ (f : Frame). f.step_count) (sym c.frame.ensures.value)
+
+pub fill_inflow-requires-clause-room_len : goal.fill_inflow-requires-clause-room_len
+fill_inflow-requires-clause-room_len g c =
+    ap length c.deref_mut-2.ensures.value ∙ c.scratch.invariant.room_len
+    ∙ ap (λ n. 8 * n) (fill_inflow-requires-clause-steps g c)
 
 pub fill_go_under_rule-requires : goal.fill_go_under_rule-requires
 fill_go_under_rule-requires g c =

@@ -1,10 +1,9 @@
 -- A group of feeds more, and those that are left.
-use Rattle.std.proofs.Common.{◌≡◌, ℕ, ◌+◌, ◌-◌, ◌*◌, ◌^◌, ◌≤◌, List, length, take, drop, arith, rules, ap}
+use Rattle.std.proofs.Common.{ℕ, ◌+◌, ◌-◌, ◌*◌, ◌^◌, length, drop, arith, rules}
 use Rattle.std.proofs.lemmas.List.{length-take}
 use Rattle.transyt_profile.specs.Profile.{folded}
-use Rattle.transyt_parts.specs.declared.link.Feed.{Feed}
 use Rattle.transyt_sweep.specs.Inflow.{read_by}
-use Rattle.transyt_sweep.proofs.InflowLaws.{all_left, feeds_next, feeds_rest, room_next, small_next}
+use Rattle.transyt_sweep.proofs.InflowLaws.{feeds_next, feeds_rest, room_next, small_next}
 use Rattle.transyt_sweep.proofs.SlotLaws.{are_put}
 use Rattle.transyt_sweep.proofs.feeds.Feeds.add_all.Goals as goal
 
@@ -28,10 +27,6 @@ groups-preserved c =
     let n : ℕ = c.args.self.now.inputs.now.step_count in
     let p : ℕ = c.groups.done in
     let k : ℕ = c.group-count.result in
-    let next : List Feed = take (p + k - p) (drop p c.args.self.now.list.now) in
-    let count : p + k - p ≡ k = omega arith in
-    let is_next : next ≡ take k (drop p c.args.self.now.list.now) = ap (λ m. take m (drop p c.args.self.now.list.now)) count in
-    let few : length next ≤ k = omega (arith, length-take (p + k - p) (drop p c.args.self.now.list.now)) in
     record {
       within = omega (arith, c.group-count.ensures.within, c.groups-test.true);
       room = search rules;
@@ -39,11 +34,11 @@ groups-preserved c =
       slots = are_put c.args.self.now.inputs.now.net.now.frame.step_count p (p + k - p) c.groups.slots c.add_together.new.slots
           c.groups.invariant.slots c.add_together.ensures.slots;
       value = feeds_next c.args.self.now.inputs.now.net.now (read_by c.args.self.now.inputs.now) (folded n c.args.turns.now)
-          c.args.self.now.list.now next p k (folded n c.groups.turns) (folded n c.add_together.new.turns) is_next
+          c.args.self.now.list.now p k (folded n c.groups.turns) (folded n c.add_together.new.turns)
           c.groups.invariant.value c.add_together.ensures.value;
       grows = λ limit within j d h. omega (
         arith,
-        few,
+        length-take (p + k - p) (drop p c.args.self.now.list.now),
         c.add_together.ensures.grows (limit + p * 2 ^ 44) (c.groups.invariant.grows limit within) j d h,
       );
     }
@@ -66,8 +61,7 @@ returns-clause-value c =
     let n : ℕ = c.args.self.now.inputs.now.step_count in
     let p : ℕ = c.groups.done in
     feeds_rest c.args.self.now.inputs.now.net.now (read_by c.args.self.now.inputs.now) (folded n c.args.turns.now) c.args.self.now.list.now
-    (take (length c.args.self.now.list.now - p) (drop p c.args.self.now.list.now)) p (folded n c.groups.turns)
-    (folded n c.add_each.new.turns) (all_left p c.args.self.now.list.now) c.groups.invariant.value c.add_each.ensures.value
+    p (folded n c.groups.turns) (folded n c.add_each.new.turns) c.groups.invariant.value c.add_each.ensures.value
 
 pub returns-clause-grows : goal.returns-clause-grows
 returns-clause-grows c = λ limit within j d h.

@@ -36,11 +36,6 @@ returns-clause-grows c = λ limit within.
     subst (λ k. All (λ v. v < limit + 2 ^ 44) (folded k c.add_to_first.new.turns)) same
     (c.add_to_first.ensures.grows limit (subst (λ k. All (λ v. v < limit) (folded k c.args.turns.now)) (sym same) within))
 
--- the room for one feed has a value for each step
-pub disperse-requires-clause-lengths : goal.disperse-requires-clause-lengths
-disperse-requires-clause-lengths c =
-    c.share.auto.shared ∙ c.split_at_mut-shared.ensures.front_len ∙ sym c.split_at_mut-brought.ensures.front_len
-
 pub add_to_first-requires-clause-turns_fit : goal.add_to_first-requires-clause-turns_fit
 add_to_first-requires-clause-turns_fit c =
     subst (λ k. All (λ v. v < 2 ^ 48 - 2 ^ 44) (folded k c.args.turns.now))

@@ -69,8 +69,7 @@ returns-clause-arrivals c =
     let entry = ap (λ (l : LinkValue). perstep net.frame l.entry) (c.at.view_is ∙ c.link-at.ensures.value) in
     let start : folded n c.start_turns.new.turns ≡ uniform net.frame.step_count (perstep net.frame link.entry) =
     c.start_turns.ensures
-    ∙ ap (uniform n) (c.per_step-entry.ensures.value ∙ entry)
-    ∙ ap (λ k. uniform k (perstep net.frame link.entry)) c.args.self.now.steps in
+    ∙ (λ j. uniform (c.args.self.now.steps j) ((c.per_step-entry.ensures.value ∙ entry) j)) in
     with_items_is c.args.rows.now.arrivals c.fold_into.new.out (c.fold_into.auto.out ∙ c.deref_mut.ensures.len)
     ∙ c.fold_into.ensures
     ∙ ap (λ m. folded m c.add_all.new.turns) (ap length c.deref_mut.ensures.value ∙ c.requires.steps)

@@ -9,6 +9,3 @@ returns-then-factors-frame c = λ is are.
     served_by s.net.now c.frame-frame.result s.feed s.feeder s.whole c.args.factors.now c.frame-frame.ensures.value
     s.is_feeder s.is_whole s.within are (grind arith) (grind arith) (grind arith) (grind arith) (grind arith)
     (grind (arith, is))
-
-pub returns-else-factors-frame : goal.returns-else-factors-frame
-returns-else-factors-frame c = λ is are. cc
