@@ -1,10 +1,12 @@
 -- A card that the network refuses, and the deck after a line.
 use Rattle.std.proofs.Common.{◌≡◌, ℕ, zero, suc, ◌+◌, List, [], ◌∷◌, ◌++◌, true, Result, Ok, Err}
-use Rattle.std.proofs.Common.{refl, not, is_some, IsOk, Bool, Option, Some, OnErr, arith}
+use Rattle.std.proofs.Common.{refl, not, is_some, IsOk, Bool, Option, Some, None, OnErr, arith, sym, subst, ◌∙◌, ◌≤◌, length}
 use Rattle.std.specs.List.{fold}
 use Rattle.std.proofs.lemmas.List.Sums.{fold-append}
 use Rattle.transyt_io.specs.Lines.{after_first_line}
 use Rattle.transyt_syntax.specs.declared.code.Code.{Code}
+use Rattle.transyt_deck.specs.declared.card.Card.{Card}
+use Rattle.transyt_deck.specs.declared.card.Card.TheVariants as c
 use Rattle.transyt_deck.specs.declared.state.Part.TheVariants as p
 use Rattle.transyt_deck.specs.declared.state.State.{State}
 use Rattle.transyt_deck.specs.declared.state.State.TheVariants as s
@@ -16,17 +18,62 @@ use Rattle.transyt_net.specs.declared.draft.DraftFault.{DraftFault}
 use Rattle.transyt_net.specs.declared.draft.DraftFault.TheVariants.{Memory}
 use Rattle.transyt_deck.specs.declared.state.Part.{Part}
 use Rattle.transyt_deck.specs.declared.state.Stop.{Stop}
-use Rattle.transyt_deck.specs.Adds.{Adds, stopped}
+use Rattle.transyt_deck.specs.Adds.{Adds, IsTied, stopped}
 use Rattle.transyt_deck.specs.Deck.{after_lines, Complete, Deck, Open, Refused, deck, deck_at, deck_by, start, code_of}
 use Rattle.transyt_deck.specs.Deck.{is_complete, is_open, line_count, next}
-use Rattle.transyt_deck.specs.State.{placed, state_after}
+use Rattle.transyt_deck.specs.State.{placed, takes, fault_of, part_of, net_with, added, state_after}
+
+-- a card before END, by its part, its fault and what it brings
+added_by : (part : Part) (net : Network) (card : Card) → (card ≡ c.End → ⊥)
+    → added part net card ≡ placed (takes part card) (fault_of net card) (part_of card) (net_with net card)
+added_by part net c.End early = absurd (early refl)
+added_by part net card early = refl
 
 -- a card in its place that the network refuses, or has no memory for
-pub adds_stopped : (fits : Bool) (first : Option DraftFault) (part to : Part) (old new net : Network)
+stopped_in : (fits : Bool) (first : Option DraftFault) (part to : Part) (old new net : Network)
     (call : Result (Unit {0}) DraftFault) (made r : Result (Unit {0}) (Stop Code)) (stop : Stop Code)
     → fits ≡ true → Refuses call first (Some Memory) → OnErr call (new ≡ old) → made ≡ stopped call
     → made ≡ Err stop → IsErrAnd r (λ e. e ≡ stop) → Adds (placed fits first to net) (part, old) (part, new) r
-adds_stopped fits first part to old new net call made r stop fit refuses same is was told = grind (arith, common_steps)
+stopped_in fits first part to old new net call made r stop fit refuses same is was told = grind (arith, common_steps)
+
+pub adds_stopped : (part : Part) (card : Card) (old new : Network) (call : Result (Unit {0}) DraftFault)
+    (made r : Result (Unit {0}) (Stop Code)) (stop : Stop Code) → (card ≡ c.End → ⊥) → takes part card ≡ true
+    → Refuses call (fault_of old card) (Some Memory) → OnErr call (new ≡ old) → made ≡ stopped call → made ≡ Err stop
+    → IsErrAnd r (λ e. e ≡ stop) → Adds (added part old card) (part, old) (part, new) r
+adds_stopped part card old new call made r stop early fit refuses same is was told =
+    subst (λ to. Adds to (part, old) (part, new) r) (sym (added_by part old card early))
+    (stopped_in _ _ part _ old new _ call made r stop fit refuses same is was told)
+
+-- a card in its place that the network takes
+taken_in : (fits : Bool) (first : Option DraftFault) (to : Part) (net : Network) → fits ≡ true → first ≡ None
+    → placed fits first to net ≡ Ok (to, net)
+taken_in fits first to net fit none = grind (arith, common_steps)
+
+pub adds_taken : (part : Part) (card : Card) (net : Network) → (card ≡ c.End → ⊥) → takes part card ≡ true
+    → fault_of net card ≡ None → added part net card ≡ Ok (part_of card, net_with net card)
+adds_taken part card net early fit none = added_by part net card early ∙ taken_in _ _ _ _ fit none
+
+-- where a deck has come to a part that takes a card, the network with the card fits the part of the card
+pub tied_after : (part : Part) (card : Card) (old new : Network) → (card ≡ c.End → ⊥) → IsTied part old
+    → takes part card ≡ true → new ≡ net_with old card → length old.nodes ≤ length new.nodes
+    → IsTied (part_of card) new
+tied_after p.Frame (c.Node number offset) old new early tied fit is more = grind (arith, common_steps)
+tied_after p.Nodes (c.Node number offset) old new early tied fit is more = grind (arith, common_steps)
+tied_after p.Nodes (c.Stage stage) old new early tied fit is more = grind (arith, common_steps)
+tied_after p.Frame (c.Link link stages) old new early tied fit is more = grind (arith, common_steps)
+tied_after p.Nodes (c.Link link stages) old new early tied fit is more = grind (arith, common_steps)
+tied_after p.Links (c.Link link stages) old new early tied fit is more = grind (arith, common_steps)
+tied_after p.Frame (c.Feed link feed) old new early tied fit is more = grind (arith, common_steps)
+tied_after p.Nodes (c.Feed link feed) old new early tied fit is more = grind (arith, common_steps)
+tied_after p.Links (c.Feed link feed) old new early tied fit is more = grind (arith, common_steps)
+tied_after p.Feeds (c.Feed link feed) old new early tied fit is more = grind (arith, common_steps)
+tied_after p.Frame (c.Yield link rule) old new early tied fit is more = grind (arith, common_steps)
+tied_after p.Nodes (c.Yield link rule) old new early tied fit is more = grind (arith, common_steps)
+tied_after p.Links (c.Yield link rule) old new early tied fit is more = grind (arith, common_steps)
+tied_after p.Feeds (c.Yield link rule) old new early tied fit is more = grind (arith, common_steps)
+tied_after part (c.Steps budget sizes) old new early tied fit is more = tt
+tied_after part c.End old new early tied fit is more = absurd (early refl)
+tied_after part card old new early tied fit is more = absurd (cc)
 
 -- the count of a deck at a state
 pub count_at : (n : ℕ) (state : State) → line_count (deck_at n state) ≡ n

@@ -1,6 +1,6 @@
 -- The state of a deck, card by card.
 use Rattle.std.specs.Prelude.{ℕ, Bool, not, nat_le, if◌then◌else◌, ◌==◌, List, Option, Some, None, option_and_then}
-use Rattle.std.specs.Prelude.{option_map, Result, Ok, Err, ◌&&◌, true, [], ◌-◌}
+use Rattle.std.specs.Prelude.{option_map, Result, Ok, Err, ◌&&◌, true, false, [], ◌-◌}
 use Rattle.std.specs.List.{list_all}
 use Rattle.transyt_syntax.specs.declared.code.Code.{Code}
 use Rattle.transyt_syntax.specs.declared.code.Code.TheVariants as code
@@ -69,24 +69,50 @@ abbrev pub placed : Bool → Option DraftFault → Part → Network → Result (
 placed fits fault part net =
     if fits then unless (option_and_then fault_code fault) (part, net) else Err code.OutOfPlace
 
+-- the part of a deck in which a card stands
+abbrev pub part_of : Card → Part
+part_of (c.Form form) = p.Frame
+part_of (c.Cycle frame) = p.Frame
+part_of (c.Node number offset) = p.Nodes
+part_of (c.Stage stage) = p.Nodes
+part_of (c.Link link stages) = p.Links
+part_of (c.Feed link feed) = p.Feeds
+part_of (c.Yield link rule) = p.Feeds
+part_of (c.Steps budget sizes) = p.Plan
+part_of c.End = p.End
+
+-- a card before END may stand where a deck has come to a part: a STAGE card after a node, a STEPS card once
+abbrev pub takes : Part → Card → Bool
+takes part (c.Form form) = false
+takes part (c.Cycle frame) = false
+takes part (c.Stage stage) = rank part == rank p.Nodes
+takes part (c.Steps budget sizes) = up_to p.Feeds part
+takes part card = up_to (part_of card) part
+
+-- the first fault of a card before END in a network
+abbrev pub fault_of : Network → Card → Option DraftFault
+fault_of net (c.Node number offset) = node_fault net number offset
+fault_of net (c.Stage stage) = stage_fault net stage
+fault_of net (c.Link link stages) = link_fault net (link_from link stages)
+fault_of net (c.Feed link feed) = feed_fault net link feed
+fault_of net (c.Yield link rule) = rule_fault net link rule
+fault_of net (c.Steps budget sizes) = climb_fault net (new_plan budget sizes)
+fault_of net _ = None
+
+-- a network with what a card brings
+abbrev pub net_with : Network → Card → Network
+net_with net (c.Node number offset) = with_node net number offset
+net_with net (c.Stage stage) = with_stage net stage
+net_with net (c.Link link stages) = with_link net (link_from link stages)
+net_with net (c.Feed link feed) = with_feed net link feed
+net_with net (c.Yield link rule) = with_rule net link rule
+net_with net (c.Steps budget sizes) = with_plan net (new_plan budget sizes)
+net_with net _ = net
+
 -- a card after the CYCLE card, where the deck has come to a part and a network
 abbrev pub added : Part → Network → Card → Result (Part × Network) Code
-added part net (c.Form form) = Err code.OutOfPlace
-added part net (c.Cycle frame) = Err code.OutOfPlace
-added part net (c.Node number offset) =
-    placed (up_to p.Nodes part) (node_fault net number offset) p.Nodes (with_node net number offset)
-added part net (c.Stage stage) =
-    placed (rank part == rank p.Nodes) (stage_fault net stage) p.Nodes (with_stage net stage)
-added part net (c.Link link stages) =
-    placed (up_to p.Links part) (link_fault net (link_from link stages)) p.Links
-    (with_link net (link_from link stages))
-added part net (c.Feed link feed) =
-    placed (up_to p.Feeds part) (feed_fault net link feed) p.Feeds (with_feed net link feed)
-added part net (c.Yield link rule) =
-    placed (up_to p.Feeds part) (rule_fault net link rule) p.Feeds (with_rule net link rule)
-added part net (c.Steps budget sizes) =
-    placed (up_to p.Feeds part) (climb_fault net (new_plan budget sizes)) p.Plan (with_plan net (new_plan budget sizes))
 added part net c.End = unless (option_map plan_code (first_fault net.frame.step_count net.nodes)) (p.End, net)
+added part net card = placed (takes part card) (fault_of net card) (part_of card) (net_with net card)
 
 -- a card before the CYCLE card, in a deck of this form
 abbrev pub framed : ℕ → Card → Result State Code

@@ -1,18 +1,20 @@
 //! The state of a deck after its cards so far, and after one card more.
-ghost use Rattle.std.specs.Prelude.{◌≡◌, ◌≤◌, ℕ, length, OnOk, OnErr, IfOk, IfErr, Ok, Err, true, false};
+ghost use Rattle.std.specs.Prelude.{◌≡◌, ◌≤◌, ℕ, length, OnOk, OnErr, IfOk, IfErr, Ok, Err, Some, true, false};
 ghost use Rattle.transyt_deck.specs.Deck.{deck_at, is_open, is_complete};
+ghost use Rattle.transyt_net.specs.Faults.{Refuses};
 ghost use Rattle.transyt_deck.specs.declared.card.Card.TheVariants as card;
 ghost use Rattle.transyt_deck.specs.declared.state.State.TheVariants as state;
-ghost use Rattle.transyt_deck.specs.State.{rank, up_to, form_of, framed, added, state_with, state_after, plan_code};
+ghost use Rattle.transyt_deck.specs.State.{rank, up_to, part_of, takes, fault_of, net_with, added, plan_code};
+ghost use Rattle.transyt_deck.specs.State.{form_of, framed, state_with, state_after};
 ghost use Rattle.transyt_deck.specs.declared.state.Stop.TheVariants as stop;
-ghost use Rattle.transyt_deck.specs.Adds.{Adds, CanAdd, IsTied, IsTiedState, stopped};
+ghost use Rattle.transyt_deck.specs.Adds.{Adds, CanAdd, IsReadyFor, IsTied, IsTiedState, stopped};
 
 use crate::card::{Card, card_in_range, read_card};
 use crate::so_far::SoFar;
 use std::alloc::Global;
 use std::mem;
-use transyt_net::{Draft, DraftFault, Feed, GiveWay, NewLink, PlanFault, Stage};
-use transyt_syntax::{Code, Found, Numbers, Refusal};
+use transyt_net::{Draft, DraftFault, PlanFault};
+use transyt_syntax::{Code, Found, Refusal};
 
 /// How far a deck has come from its CYCLE card on; later parts come later.
 #[derive(Clone, Copy)]
@@ -32,6 +34,20 @@ pub enum Part {
 }
 
 impl Part {
+    /// The part in which a card stands.
+    fn of(card: &Card) -> Part
+        ensures { result ≡ part_of card.now }
+    {
+        match card {
+            Card::Form(_) | Card::Cycle(_) => Part::Frame,
+            Card::Node { .. } | Card::Stage(_) => Part::Nodes,
+            Card::Link { .. } => Part::Links,
+            Card::Feed { .. } | Card::Yield { .. } => Part::Feeds,
+            Card::Steps { .. } => Part::Plan,
+            Card::End => Part::End,
+        }
+    }
+
     /// The place of the part in the order, from 0.
     fn rank(self) -> u32
         ensures { result ≡ rank self }
@@ -51,6 +67,18 @@ impl Part {
         ensures { result ≡ up_to last self }
     {
         self.rank() <= last.rank()
+    }
+
+    /// Whether a card may stand where a deck has come to this part.
+    fn takes(self, card: &Card) -> bool
+        ensures { result ≡ takes self card.now }
+    {
+        match card {
+            Card::Form(_) | Card::Cycle(_) => false,
+            Card::Stage(_) => self == Part::Nodes,
+            Card::Steps { .. } => self.is_up_to(Part::Feeds),
+            _ => self.is_up_to(Part::of(card)),
+        }
     }
 }
 
@@ -217,120 +245,35 @@ fn add_to(part: &mut Part, draft: &mut Draft, card: &Card) -> Result<(), Stop<Co
         (part.old, draft.old) (part.new, draft.new) result }
     ensures stays_tied { IsTied part.new draft.new }
 {
+    if let Card::End = card {
+        return end(part, draft);
+    }
+    if !part.takes(card) {
+        return Err(Stop::Code(Code::OutOfPlace));
+    }
+    stopped(enter(draft, card))?;
+    *part = Part::of(card);
+    Ok(())
+}
+
+/// Enters a card before END in the draft; a card with a fault changes nothing.
+fn enter(draft: &mut Draft, card: &Card) -> Result<(), DraftFault>
+    requires ready { IsReadyFor card.now draft.old }
+    requires counts { CanAdd card.now }
+    ensures refuses { Refuses result (fault_of draft.old card.now) (Some DraftFault.Memory) }
+    ensures ok { OnOk result (draft.new ≡ net_with draft.old card.now) }
+    ensures err { OnErr result (draft.new ≡ draft.old) }
+    ensures nodes { length draft.old.nodes ≤ length draft.new.nodes }
+{
     match card {
-        Card::Form(_) | Card::Cycle(_) => Err(Stop::Code(Code::OutOfPlace)),
-        Card::Node { number, offset } => add_node(part, draft, *number, *offset),
-        Card::Stage(stage) => add_stage(part, draft, *stage),
-        Card::Link { link, stages } => add_link(part, draft, *link, stages),
-        Card::Feed { link, feed } => add_feed(part, draft, *link, *feed),
-        Card::Yield { link, rule } => add_rule(part, draft, *link, *rule),
-        Card::Steps { budget, sizes } => add_plan(part, draft, *budget, sizes),
-        Card::End => end(part, draft),
+        Card::Form(_) | Card::Cycle(_) | Card::End => Ok(()),
+        Card::Node { number, offset } => draft.node(*number, *offset),
+        Card::Stage(stage) => draft.stage(stage.change, stage.intergreen, stage.least),
+        Card::Link { link, stages } => draft.link(*link, stages.as_slice()),
+        Card::Feed { link, feed } => draft.feed(*link, feed.feeder, feed.flow, feed.cruise),
+        Card::Yield { link, rule } => draft.give_way(*link, rule.other, rule.percent),
+        Card::Steps { budget, sizes } => draft.plan(*budget, sizes.as_slice()),
     }
-}
-
-/// A NODE card.
-fn add_node(part: &mut Part, draft: &mut Draft, number: u32, offset: u32) -> Result<(), Stop<Code>>
-    requires tied { IsTied part.old draft.old }
-    ensures adds { Adds (added part.old draft.old (card.Node number offset))
-        (part.old, draft.old) (part.new, draft.new) result }
-    ensures stays_tied { IsTied part.new draft.new }
-{
-    if !part.is_up_to(Part::Nodes) {
-        return Err(Stop::Code(Code::OutOfPlace));
-    }
-    stopped(draft.node(number, offset))?;
-    *part = Part::Nodes;
-    Ok(())
-}
-
-/// A STAGE card.
-fn add_stage(part: &mut Part, draft: &mut Draft, stage: Stage) -> Result<(), Stop<Code>>
-    requires tied { IsTied part.old draft.old }
-    ensures adds { Adds (added part.old draft.old (card.Stage stage))
-        (part.old, draft.old) (part.new, draft.new) result }
-    ensures stays_tied { IsTied part.new draft.new }
-{
-    if *part != Part::Nodes {
-        return Err(Stop::Code(Code::OutOfPlace));
-    }
-    stopped(draft.stage(stage.change, stage.intergreen, stage.least))?;
-    *part = Part::Nodes;
-    Ok(())
-}
-
-/// A LINK card.
-fn add_link(
-    part: &mut Part,
-    draft: &mut Draft,
-    link: NewLink,
-    stages: &Numbers,
-) -> Result<(), Stop<Code>>
-    requires tied { IsTied part.old draft.old }
-    requires some { 1 ≤ length stages.now }
-    requires most { length stages.now ≤ 8 }
-    ensures adds { Adds (added part.old draft.old (card.Link link stages.now))
-        (part.old, draft.old) (part.new, draft.new) result }
-    ensures stays_tied { IsTied part.new draft.new }
-{
-    if !part.is_up_to(Part::Links) {
-        return Err(Stop::Code(Code::OutOfPlace));
-    }
-    stopped(draft.link(link, stages.as_slice()))?;
-    *part = Part::Links;
-    Ok(())
-}
-
-/// A FEED card.
-fn add_feed(part: &mut Part, draft: &mut Draft, link: u32, feed: Feed) -> Result<(), Stop<Code>>
-    requires tied { IsTied part.old draft.old }
-    ensures adds { Adds (added part.old draft.old (card.Feed link feed))
-        (part.old, draft.old) (part.new, draft.new) result }
-    ensures stays_tied { IsTied part.new draft.new }
-{
-    if !part.is_up_to(Part::Feeds) {
-        return Err(Stop::Code(Code::OutOfPlace));
-    }
-    stopped(draft.feed(link, feed.feeder, feed.flow, feed.cruise))?;
-    *part = Part::Feeds;
-    Ok(())
-}
-
-/// A YIELD card.
-fn add_rule(part: &mut Part, draft: &mut Draft, link: u32, rule: GiveWay) -> Result<(), Stop<Code>>
-    requires tied { IsTied part.old draft.old }
-    ensures adds { Adds (added part.old draft.old (card.Yield link rule))
-        (part.old, draft.old) (part.new, draft.new) result }
-    ensures stays_tied { IsTied part.new draft.new }
-{
-    if !part.is_up_to(Part::Feeds) {
-        return Err(Stop::Code(Code::OutOfPlace));
-    }
-    stopped(draft.give_way(link, rule.other, rule.percent))?;
-    *part = Part::Feeds;
-    Ok(())
-}
-
-/// A STEPS card.
-fn add_plan(
-    part: &mut Part,
-    draft: &mut Draft,
-    budget: u32,
-    sizes: &Numbers,
-) -> Result<(), Stop<Code>>
-    requires tied { IsTied part.old draft.old }
-    requires some { 1 ≤ length sizes.now }
-    requires most { length sizes.now ≤ 16 }
-    ensures adds { Adds (added part.old draft.old (card.Steps budget sizes.now))
-        (part.old, draft.old) (part.new, draft.new) result }
-    ensures stays_tied { IsTied part.new draft.new }
-{
-    if !part.is_up_to(Part::Feeds) {
-        return Err(Stop::Code(Code::OutOfPlace));
-    }
-    stopped(draft.plan(budget, sizes.as_slice()))?;
-    *part = Part::Plan;
-    Ok(())
 }
 
 /// An END card: the stage plans are judged, node by node.
