@@ -1,6 +1,6 @@
 //! One desk, and how it comes to the network of desk 0.
 
-ghost use Rattle.std.specs.Prelude.{◌≡◌, ℕ, ◌<◌, length, true, ◌↔◌, IsTrue};
+ghost use Rattle.std.specs.Prelude.{◌≡◌, ℕ, ◌<◌, length, ◌↔◌, IsTrue};
 ghost use Rattle.transyt_session.specs.Session.{standing_for};
 ghost use Rattle.transyt_desks.specs.Desks.{new_desk, session_at, sessions_of};
 ghost use Rattle.transyt_desks.specs.Batches.{CanFollow};

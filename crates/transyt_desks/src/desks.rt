@@ -1,18 +1,18 @@
 //! The desks, and their rounds.
 
-ghost use Rattle.std.specs.Prelude.{◌≡◌, ◌≢◌, ℕ, ◌+◌, ◌*◌, ◌^◌, ◌<◌, ◌≤◌, ◌↔◌, length, max, replicate, None, IfOk, IfSome, IsTrue, ◌==◌, if◌then◌else◌};
+ghost use Rattle.std.specs.Prelude.{◌≡◌, ◌≢◌, ◌+◌, ◌*◌, ◌^◌, ◌≤◌, ◌↔◌, length, max, None, IfOk, IsTrue};
 ghost use Rattle.std.specs.Borrow.{sem};
 ghost use Rattle.transyt_climb.specs.Turns.{machine};
 ghost use Rattle.transyt_desks.specs.Desks.{desk_zero, opened_desks, sessions_of, with_zero, AreAligned, AreAlike};
 ghost use Rattle.transyt_desks.specs.Lends.{LendsZero};
 ghost use Rattle.transyt_desks.specs.Stretches.{AreTriesOf, IsStretch, net_made};
 ghost use Rattle.transyt_moves.specs.Moves.{move_count};
-ghost use Rattle.transyt_session.specs.Session.{credited, opened, standing_for};
-ghost use Rattle.transyt_sweep.specs.Sweeps.{index};
+ghost use Rattle.transyt_session.specs.Session.{credited, standing_for};
 ghost use Rattle.transyt_track.specs.Due.{cert_work};
 ghost use Rattle.transyt_desks.specs.Rounds.{places_of, room_of, CanRound, MakesRound, RoundsDesks};
 
 use crate::batch::Batch;
+use crate::crew::{crew_size, open_crew};
 use crate::desk::{Desk, all_stand};
 use crate::desk_count::DeskCount;
 use crate::gate::{Gate, OpenGate};
@@ -381,28 +381,4 @@ fn known_after(tried: Stretch, count: usize, in_step: usize) -> usize
         None => count.max(in_step),
         Some(_) => 0,
     }
-}
-
-/// How many try beside desk 0 with so many workers: none with one, and else one more than there are other desks.
-fn crew_size(workers: u32) -> u32
-    ensures { result ≡ (if workers == 1 then 0 else workers) }
-{
-    match workers {
-        1 => 0,
-        _ => workers,
-    }
-}
-
-/// So many twins of a session, each at a desk.
-fn open_crew(alloc: Global, session: &Session, count: u32) -> Result<Vec<Desk>, AllocError>
-    requires closed { session.now.before ≡ None }
-    ensures { IfOk result
-        (λ crew. sessions_of crew.items ≡ replicate count (opened session.now.net)) }
-{
-    let mut crew = Vec::new(alloc);
-    for made in 0..count {
-        let twin = session.twin(alloc)?;
-        crew.push(Desk::new(twin))?;
-    }
-    Ok(crew)
 }

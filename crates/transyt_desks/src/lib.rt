@@ -33,6 +33,7 @@
 
 mod batch;
 mod climbing;
+mod crew;
 mod desk;
 mod desk_count;
 mod desks;

@@ -1,6 +1,6 @@
 //! What the moves that a desk tries come to.
 
-ghost use Rattle.std.specs.Prelude.{◌≡◌, ◌≤◌, replicate, None};
+ghost use Rattle.std.specs.Prelude.{◌≡◌, replicate, None};
 ghost use Rattle.transyt_session.specs.declared.answers.Tried.TheVariants.{Barred};
 ghost use Rattle.transyt_desks.specs.Stretches.{made_by};
 

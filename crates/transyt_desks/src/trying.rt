@@ -1,14 +1,14 @@
 //! Moves of the list, all tried at once.
 
 ghost use Rattle.std.specs.Thread.{IsSync};
-ghost use Rattle.std.specs.Prelude.{◌≡◌, ◌≢◌, ℕ, ◌+◌, ◌*◌, ◌^◌, ◌<◌, ◌≤◌, length, take, drop, None, All, false};
-ghost use Rattle.transyt_moves.specs.Moves.{move, move_count};
+ghost use Rattle.std.specs.Prelude.{◌≡◌, ◌≢◌, ◌+◌, ◌<◌, ◌≤◌, length, take, drop, None, All};
+ghost use Rattle.transyt_moves.specs.Moves.{move_count};
 ghost use Rattle.transyt_sweep.specs.Sweeps.{index};
-ghost use Rattle.transyt_track.specs.Due.{cert_work, edit_work};
-ghost use Rattle.transyt_session.specs.Session.{standing_for, try_of};
+ghost use Rattle.transyt_track.specs.Due.{cert_work};
+ghost use Rattle.transyt_session.specs.Session.{standing_for};
 ghost use Rattle.transyt_desks.specs.Desks.{sessions_of};
 ghost use Rattle.transyt_desks.specs.Stretches.{AreResults, AreTried, AreTriesOf, HasTried, HaveTried, IsStretch, MadeAt, net_made};
-ghost use Rattle.transyt_desks.specs.Batches.{AreStanding, CanAllFollow, CanFollow, HasTriedBatch};
+ghost use Rattle.transyt_desks.specs.Batches.{CanAllFollow, CanFollow, HasTriedBatch};
 
 use crate::batch::Batch;
 use crate::desk::{Desk, follow};

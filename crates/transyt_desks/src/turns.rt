@@ -1,6 +1,6 @@
 //! The turns of a round that pass, some of whose moves the desks have tried before.
 
-ghost use Rattle.std.specs.Prelude.{◌≡◌, ◌+◌, ◌≤◌};
+ghost use Rattle.std.specs.Prelude.{◌≡◌, ◌≤◌};
 ghost use Rattle.transyt_desks.specs.Rounds.{looks_left, passed_by};
 
 use transyt_climb::{Climber, Turn};

@@ -2,7 +2,7 @@
 use Rattle.std.proofs.Common.{◌≡◌, replicate}
 use Rattle.transyt_session.specs.Session.{opened}
 use Rattle.transyt_desks.specs.Desks.{sessions_of}
-use Rattle.transyt_desks.proofs.desks.open_crew.Given as goal
+use Rattle.transyt_desks.proofs.crew.open_crew.Given as goal
 
 -- as many as were made
 abbrev pub invariant-loop-made : goal.invariant-loop-made
