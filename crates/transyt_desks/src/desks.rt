@@ -22,7 +22,7 @@ use crate::rounds::{batch_of, end_of};
 use crate::runner::Runner;
 use crate::split::Split;
 use crate::stretch::Stretch;
-use crate::trying::{hand_on, try_moves_alone, try_moves_forked, try_stretch};
+use crate::trying::{hand_on, try_moves_alone};
 use crate::turns::{Round, note_passed};
 use std::alloc::{AllocError, Global};
 use std::marker::Model;
@@ -136,7 +136,7 @@ impl Desks {
             gate: &OpenGate,
         };
         let zero = &self.zero;
-        try_moves_forked(&runner, self.crew.as_mut_slice(), Job { zero, batch });
+        runner.try_moves_forked(self.crew.as_mut_slice(), Job { zero, batch });
         self.in_step = count;
     }
 
@@ -205,7 +205,7 @@ impl Desks {
         };
         let zero = &self.zero;
         let job = Job { zero, batch };
-        try_moves_forked(&Runner { rt, gate }, self.crew.as_mut_slice(), job);
+        Runner { rt, gate }.try_moves_forked(self.crew.as_mut_slice(), job);
         hand_on(self.crew.as_slice(), job, tries);
         self.in_step = self.crew.len();
     }
@@ -232,7 +232,7 @@ impl Desks {
         let count = split.desks.number;
         let next = batch_of(climber, split, self.zero.index());
         let batch = next.with_known(count <= self.in_step);
-        let tried = try_stretch(runner, &mut self.zero, self.crew.as_mut_slice(), batch);
+        let tried = runner.try_stretch(&mut self.zero, self.crew.as_mut_slice(), batch);
         self.in_step = known_after(tried, count, self.in_step);
         tried
     }

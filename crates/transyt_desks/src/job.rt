@@ -30,7 +30,8 @@ pub(crate) struct Attempt<'a> {
 impl Attempt<'_> {
     /// The place of the desk's move at a turn, from 0; none after its last move.
     pub(crate) fn place(self, turn: u32) -> Option<u32>
-        ensures value { IfSome result (λ place. place ≡ turn_place self.entry.job.batch self.entry.desk turn) }
+        ensures value { IfSome result
+            (λ place. place ≡ turn_place self.entry.job.batch self.entry.desk turn) }
         ensures below { IfSome result (λ place. place < self.entry.job.batch.count) }
         ensures some { IfSome result
             (λ _. self.entry.desk + turn * self.entry.job.batch.desks < self.entry.job.batch.room) }

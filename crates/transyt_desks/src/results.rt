@@ -42,12 +42,27 @@ impl TryResults {
     }
 }
 
-/// The edit that is made by the result of a try of it: it is allowed and brings the index below a bound.
-pub(crate) fn made_by(bound: u128, edit: Edit, found: Tried) -> Option<MadeMove>
-    ensures { result ≡ made_by bound edit found }
-{
-    match found {
-        Tried::Index { index, work } if index < bound => Some(MadeMove { edit, index, work }),
-        _ => None,
+/// A move that a desk tries, and makes where it brings the index below a bound.
+#[derive(Clone, Copy)]
+pub(crate) struct Candidate {
+    /// The move.
+    pub(crate) edit: Edit,
+    /// The bound.
+    pub(crate) bound: u128,
+}
+
+impl Candidate {
+    /// The move that is made by the result of a try of it: it is allowed and brings the index below the bound.
+    pub(crate) fn made_by(self, found: Tried) -> Option<MadeMove>
+        ensures { result ≡ made_by self.bound self.edit found }
+    {
+        match found {
+            Tried::Index { index, work } if index < self.bound => Some(MadeMove {
+                edit: self.edit,
+                index,
+                work,
+            }),
+            _ => None,
+        }
     }
 }

@@ -6,11 +6,10 @@ ghost use Rattle.transyt_track.specs.Due.{edit_work};
 ghost use Rattle.transyt_session.specs.Session.{standing_for, tried_below, try_of};
 ghost use Rattle.transyt_desks.specs.Stretches.{made_at, net_made, work_found};
 
-use crate::results::{MadeMove, made_by};
+use crate::results::{Candidate, MadeMove};
 use std::marker::Brand;
 use std::sync::ledger::{Blank, Ledger};
 use transyt_moves::move_at;
-use transyt_net::Edit;
 use transyt_session::{Session, Tried};
 use transyt_steps::Steps;
 
@@ -48,18 +47,18 @@ pub(crate) fn work_found(found: Tried) -> u64
     }
 }
 
-/// Tries an edit with a bound, with a counter of steps of its own.
-fn try_counted<L: Ledger>(session: &mut Session, edit: Edit, bound: u128, blank: Blank) -> Tried
+/// Tries a candidate, with a counter of steps of its own.
+fn try_counted<L: Ledger>(session: &mut Session, candidate: Candidate, blank: Blank) -> Tried
     requires name { blank.name ≡ L.name }
     requires parts { blank.parts ≡ L.parts }
     requires some { 0 < L.parts }
     requires closed { session.old.before ≡ None }
-    ensures tried { result ≡ try_of session.old.net edit }
-    ensures few { edit_work session.old.net edit ≤ 8000 }
-    ensures state { session.new ≡ tried_below bound edit session.old }
+    ensures tried { result ≡ try_of session.old.net candidate.edit }
+    ensures few { edit_work session.old.net candidate.edit ≤ 8000 }
+    ensures state { session.new ≡ tried_below candidate.bound candidate.edit session.old }
 {
     let mut steps = Steps::<L>::begin(blank);
-    session.try_below(edit, bound, &mut steps)
+    session.try_below(candidate.edit, candidate.bound, &mut steps)
 }
 
 /// Tries the move at a place, and makes it where it is allowed and brings the index below a bound: what the try came to,
@@ -74,7 +73,10 @@ pub(crate) fn try_at(session: &mut Session, place: u32, bound: u128) -> (Tried, 
     ensures small { IfSome result.1 (λ made. made.work ≤ 8000) }
     ensures state { session.new ≡ standing_for (net_made result.1 session.old.net) session.old }
 {
-    let edit = move_at(session.net(), place);
-    let found = try_counted::<Brand>(session, edit, bound, Blank::new(1));
-    (found, made_by(bound, edit, found))
+    let candidate = Candidate {
+        edit: move_at(session.net(), place),
+        bound,
+    };
+    let found = try_counted::<Brand>(session, candidate, Blank::new(1));
+    (found, candidate.made_by(found))
 }

@@ -1,6 +1,6 @@
 //! Rounds with the runtime's threads: two desks at work at once.
 
-ghost use Rattle.std.specs.Prelude.{◌≡◌, ◌<◌, ◌≤◌, IfSome};
+ghost use Rattle.std.specs.Prelude.{◌≡◌, ◌<◌, IfSome};
 ghost use Rattle.transyt_moves.specs.Moves.{move_count};
 ghost use Rattle.transyt_climb.specs.Turns.{start_at};
 ghost use Rattle.transyt_desks.specs.Desks.{AreAligned};
@@ -34,18 +34,14 @@ fn climber_of(net: &Net) -> Option<Climber>
     Some(climber)
 }
 
-/// So many desks on a network.
-fn desks_of<L: Ledger>(
+/// Two desks on a network.
+fn two_desks<L: Ledger>(
     alloc: Global,
     net: Net,
-    workers: u32,
     steps: &mut Steps<L>,
-) -> Result<Desks, AllocError>
-    requires some { 1 ≤ workers }
-    requires few { workers ≤ 8 }
-{
+) -> Result<Desks, AllocError> {
     let session = Session::open(alloc, net, steps)?;
-    Desks::open(alloc, session, workers)
+    Desks::open(alloc, session, 2)
 }
 
 /// A climb of the junction.
@@ -57,42 +53,49 @@ const CLIMBS: [(u32, Plan); 1] = [(
     },
 )];
 
-/// A round; none where the desks don't stand for one network, a trial is open, the climber's list isn't the network's,
-/// or there is much work.
-fn next_round<R: Threads + Sync, G: Gate, L: Ledger>(
-    rt: &R,
-    climber: &mut Climber,
-    desks: &mut Desks,
-    gate: &G,
-    steps: &mut Steps<L>,
-) -> Option<Round> {
-    let session = desks.session();
-    let count = move_count(session.net());
-    if !desks.aligned()
-        || session.is_trial()
-        || climber.count() != count
-        || session.work() > MOST_WORK
-    {
-        return None;
-    }
-    Some(desks.round(rt, climber, gate, steps))
-}
-
 /// Two rounds, and the counts of the gate after the first of them.
 type Rounds = (Round, [u64; 3], Round);
 
-/// Two rounds at a gate where the desks wait for each other.
-fn two_rounds<R: Threads + Sync, L: Ledger>(
-    rt: &R,
-    climber: &mut Climber,
-    desks: &mut Desks,
-    steps: &mut Steps<L>,
-) -> Option<Rounds> {
-    let gate = Meeting::new();
-    let first = next_round(rt, climber, desks, &gate, steps)?;
-    let counts = gate.counts();
-    let second = next_round(rt, climber, desks, &gate, steps)?;
-    Some((first, counts, second))
+/// A climb by rounds of desks.
+#[derive(Drop)]
+struct Climb<'a> {
+    climber: Climber,
+    desks: &'a mut Desks,
+}
+
+impl Climb<'_> {
+    /// A round; none where the desks don't stand for one network, a trial is open, the climber's list isn't the
+    /// network's, or there is much work.
+    fn next_round<R: Threads + Sync, G: Gate, L: Ledger>(
+        &mut self,
+        rt: &R,
+        gate: &G,
+        steps: &mut Steps<L>,
+    ) -> Option<Round> {
+        let session = self.desks.session();
+        let count = move_count(session.net());
+        if !self.desks.aligned()
+            || session.is_trial()
+            || self.climber.count() != count
+            || session.work() > MOST_WORK
+        {
+            return None;
+        }
+        Some(self.desks.round(rt, &mut self.climber, gate, steps))
+    }
+
+    /// Two rounds at a gate where the desks wait for each other.
+    fn two_rounds<R: Threads + Sync, L: Ledger>(
+        &mut self,
+        rt: &R,
+        steps: &mut Steps<L>,
+    ) -> Option<Rounds> {
+        let gate = Meeting::new();
+        let first = self.next_round(rt, &gate, steps)?;
+        let counts = gate.counts();
+        let second = self.next_round(rt, &gate, steps)?;
+        Some((first, counts, second))
+    }
 }
 
 /// Lets all desks stand for the network of desk 0, which they do already.
@@ -108,12 +111,16 @@ fn first_rounds<R: Threads + Sync, L: Ledger>(
     desks: &mut Desks,
     steps: &mut Steps<L>,
 ) -> Option<Rounds> {
-    let mut climber = climber_of(desks.session().net())?;
+    let climber = climber_of(desks.session().net())?;
     if !desks.aligned() {
         return None;
     }
     align(rt, desks, steps);
-    let found = two_rounds(rt, &mut climber, desks, steps)?;
+    let mut climb = Climb {
+        climber,
+        desks: &mut *desks,
+    };
+    let found = climb.two_rounds(rt, steps)?;
     if !desks.aligned() {
         return None;
     }
@@ -121,9 +128,8 @@ fn first_rounds<R: Threads + Sync, L: Ledger>(
 }
 
 /// Two rounds of two desks.
-fn two_rounds_of_two<R: Threads + Sync, L: Ledger>(
+fn two_rounds_of_two<R: Threads + Sync + AllocGlobal, L: Ledger>(
     rt: &R,
-    alloc: Global,
     net: Net,
     blank: Blank,
 ) -> Result<Option<Rounds>, AllocError>
@@ -132,7 +138,7 @@ fn two_rounds_of_two<R: Threads + Sync, L: Ledger>(
     requires some { 0 < L.parts }
 {
     let mut steps = Steps::<L>::begin(blank);
-    let mut desks = desks_of(alloc, net, 2, &mut steps)?;
+    let mut desks = two_desks(rt.alloc(), net, &mut steps)?;
     Ok(first_rounds(rt, &mut desks, &mut steps))
 }
 
@@ -157,7 +163,7 @@ const TOOK: Round = Round {
 #[test]
 fn two_desks_are_at_work_at_once(rt: HostRuntime) -> Result<(), Fail> {
     let net = town(rt.alloc(), 1, CLIMBS[0].1)?;
-    let found = two_rounds_of_two::<HostRuntime, Brand>(&rt, rt.alloc(), net, Blank::new(1))?;
+    let found = two_rounds_of_two::<HostRuntime, Brand>(&rt, net, Blank::new(1))?;
     assert!(rt; found == Some((PASSED, [1, 1, 0], TOOK)));
     Ok(())
 }

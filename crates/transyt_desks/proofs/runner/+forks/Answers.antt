@@ -5,10 +5,10 @@ use Rattle.transyt_desks.specs.Stretches.{HasTried, HaveTried}
 use Rattle.transyt_desks.specs.Batches.{CanFollow}
 use Rattle.transyt_desks.proofs.ResultLaws.{found_more}
 use Rattle.transyt_desks.proofs.SplitLaws.{all_front, all_last}
-use Rattle.transyt_desks.proofs.trying.+forks.Goals as goal
+use Rattle.transyt_desks.proofs.runner.+forks.Goals as goal
 
-pub try_moves_forked-returns-else-is_empty-2 : goal.try_moves_forked-returns-else-is_empty-2
-try_moves_forked-returns-else-is_empty-2 g t c =
+pub Runner::try_moves_forked-returns-else-is_empty-2 : goal.Runner::try_moves_forked-returns-else-is_empty-2
+Runner::try_moves_forked-returns-else-is_empty-2 g t c =
     let split = c.split_at_mut-front in
     let back = split.result.1.now in
     let some : 0 < length c.args.desks.now = grind (arith, c.is_empty.ensures, c.if-is_empty.false) in
@@ -19,8 +19,8 @@ try_moves_forked-returns-else-is_empty-2 g t c =
     c.try_moves_on_both.ensures.front c.try_moves_on_both.ensures.last)
 
 -- a desk alone has tried its moves
-pub try_moves_forked-returns-then-is_empty-2 : goal.try_moves_forked-returns-then-is_empty-2
-try_moves_forked-returns-then-is_empty-2 g t c =
+pub Runner::try_moves_forked-returns-then-is_empty-2 : goal.Runner::try_moves_forked-returns-then-is_empty-2
+Runner::try_moves_forked-returns-then-is_empty-2 g t c =
     let split = c.split_at_mut-front in
     let back = split.result.1.now in
     let some : 0 < length c.args.desks.now = grind (arith, c.is_empty.ensures, c.if-is_empty.false) in
@@ -33,21 +33,21 @@ try_moves_forked-returns-then-is_empty-2 g t c =
     (subst (λ n. HasTried c.args.job.zero.now.net c.args.job.batch n (slice_index_or back 0 c.index-last-0.result) c.try_moves_at_gate.new.desk) (sym none)
     c.try_moves_at_gate.ensures))
 
-pub try_moves_forked-try_moves_at_gate-requires-clause-ready : goal.try_moves_forked-try_moves_at_gate-requires-clause-ready
-try_moves_forked-try_moves_at_gate-requires-clause-ready g t c κs within =
+pub Runner::try_moves_forked-try_moves_at_gate-requires-clause-ready : goal.Runner::try_moves_forked-try_moves_at_gate-requires-clause-ready
+Runner::try_moves_forked-try_moves_at_gate-requires-clause-ready g t c κs within =
     let split = c.split_at_mut-front in
     let some : 0 < length c.args.desks.now = grind (arith, c.is_empty.ensures, c.if-is_empty.false) in
     all_last (λ (d : Desk). CanFollow c.args.job.zero.now.net c.args.job.batch.known d.session) c.args.desks.now split.result.0.now split.result.1.now split.ensures.value
     c.requires.ready (omega (arith, split.ensures.back_len, some)) c.index-last-0.result
 
-pub try_moves_forked-try_moves_on_both-requires-clause-ready : goal.try_moves_forked-try_moves_on_both-requires-clause-ready
-try_moves_forked-try_moves_on_both-requires-clause-ready g t c κs within =
+pub Runner::try_moves_forked-try_moves_on_both-requires-clause-ready : goal.Runner::try_moves_forked-try_moves_on_both-requires-clause-ready
+Runner::try_moves_forked-try_moves_on_both-requires-clause-ready g t c κs within =
     let split = c.split_at_mut-front in
     all_front (λ (d : Desk). CanFollow c.args.job.zero.now.net c.args.job.batch.known d.session) c.args.desks.now split.result.0.now split.result.1.now split.ensures.value
     c.requires.ready
 
-pub try_moves_forked-try_moves_on_both-requires-clause-last_ready : goal.try_moves_forked-try_moves_on_both-requires-clause-last_ready
-try_moves_forked-try_moves_on_both-requires-clause-last_ready g t c κs within =
+pub Runner::try_moves_forked-try_moves_on_both-requires-clause-last_ready : goal.Runner::try_moves_forked-try_moves_on_both-requires-clause-last_ready
+Runner::try_moves_forked-try_moves_on_both-requires-clause-last_ready g t c κs within =
     let split = c.split_at_mut-front in
     let some : 0 < length c.args.desks.now = grind (arith, c.is_empty.ensures, c.if-is_empty.false) in
     all_last (λ (d : Desk). CanFollow c.args.job.zero.now.net c.args.job.batch.known d.session) c.args.desks.now split.result.0.now split.result.1.now split.ensures.value

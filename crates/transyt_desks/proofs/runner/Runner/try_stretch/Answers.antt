@@ -10,7 +10,7 @@ use Rattle.transyt_desks.proofs.CrewLaws.{first_sessions, sessions_first}
 use Rattle.transyt_desks.proofs.DeskLaws.{session_read, sessions_count}
 use Rattle.transyt_desks.proofs.BatchLaws.{tried_none, tried_some}
 use Rattle.transyt_desks.proofs.TriedLaws.{none_made, some_told}
-use Rattle.transyt_desks.proofs.trying.try_stretch.Goals as goal
+use Rattle.transyt_desks.proofs.runner.Runner.try_stretch.Goals as goal
 
 pub try_moves_forked-requires-clause-ready : goal.try_moves_forked-requires-clause-ready
 try_moves_forked-requires-clause-ready g c κs within = λ k d less.
