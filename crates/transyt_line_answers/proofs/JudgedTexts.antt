@@ -11,8 +11,8 @@ use Rattle.transyt_commands.specs.Commands.{command_in}
 use Rattle.transyt_session.specs.Session.{SessionValue}
 use Rattle.transyt_line_answers.specs.declared.answer.Answer.{Answer}
 use Rattle.transyt_line_answers.specs.declared.answer.Answer.TheVariants as a
-use Rattle.transyt_line_answers.specs.Commands.{edit_code, answer_text, answer_to, judged, said_answer, said_judged, line_answer}
-use Rattle.transyt_line_answers.specs.Commands.{line_judged}
+use Rattle.transyt_line_answers.specs.Commands.{answer_text, answer_to, judged, said_answer, said_judged, line_answer, line_judged}
+use Rattle.transyt_line_answers.specs.Refusals.{edit_code}
 
 module _ (s t : SessionValue) where
   -- an edit's answer has no figure

@@ -1,17 +1,11 @@
 -- The answer to a command over a session, its text, and the session after it.
 use Rattle.std.specs.Prelude.{ℕ, ◌++◌, List, [], ◌∷◌, Option, Some, None, Result, Ok, Err, is_some, codes}
-use Rattle.std.specs.Prelude.{flat_map, length, if◌then◌else◌, Bool, nat_le, nat_lt}
+use Rattle.std.specs.Prelude.{flat_map, length, if◌then◌else◌}
 use Rattle.std.specs.Option.{option_map_or}
 use Rattle.transyt_syntax.specs.declared.code.Code.{Code}
 use Rattle.transyt_syntax.specs.declared.code.Code.TheVariants as code
 use Rattle.transyt_syntax.specs.Codes.{number}
 use Rattle.transyt_parts.specs.Parts.{PlanValue}
-use Rattle.transyt_parts.specs.Ranges.{cruise_range, is_in, most_flow, saturation_range}
-use Rattle.transyt_parts.specs.Valid.{weights_in_range}
-use Rattle.transyt_net.specs.declared.edit.Edit.{Edit}
-use Rattle.transyt_net.specs.declared.edit.Edit.TheVariants as e
-use Rattle.transyt_net.specs.declared.edit.EditFault.{EditFault}
-use Rattle.transyt_net.specs.declared.edit.EditFault.TheVariants as fault
 use Rattle.transyt_net.specs.Parts.{Network}
 use Rattle.transyt_net.specs.Valid.{place_of, link_numbers}
 use Rattle.transyt_net.specs.EditFaults.{edit_fault}
@@ -34,24 +28,7 @@ use Rattle.transyt_report.specs.Texts.{took_text, end_text, report_text}
 use Rattle.transyt_report.specs.Plot.{plot_text}
 use Rattle.transyt_line_answers.specs.declared.answer.Answer.{Answer}
 use Rattle.transyt_line_answers.specs.declared.answer.Answer.TheVariants as a
-
--- the code of an edit's fault
-abbrev pub edit_code : EditFault → Code
-edit_code fault.Unknown = code.Unknown
-edit_code fault.NoFeeder = code.NoFeeder
-edit_code fault.Range = code.Range
-edit_code fault.StageOrder = code.StageOrder
-edit_code fault.LeastGreen = code.LeastGreen
-
--- whether the numbers that an edit sets are in their ranges, in a cycle of so many steps
-abbrev pub edit_in_range : ℕ → Edit → Bool
-edit_in_range steps (e.Offset node offset) = nat_lt offset steps
-edit_in_range steps (e.Change node stage change) = nat_lt change steps
-edit_in_range steps (e.Entry link flow) = nat_le flow most_flow
-edit_in_range steps (e.Part link feeder flow) = nat_le flow most_flow
-edit_in_range steps (e.Cruise link feeder seconds) = is_in cruise_range seconds
-edit_in_range steps (e.Saturation link flow) = is_in saturation_range flow
-edit_in_range steps (e.Weight link weights) = weights_in_range weights
+use Rattle.transyt_line_answers.specs.Refusals.{edit_code}
 
 -- the answer about the link of this number, or that there is none
 abbrev pub about_link : Network → ℕ → (ℕ → Answer) → Answer

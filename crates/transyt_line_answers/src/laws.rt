@@ -16,8 +16,8 @@ ghost use Rattle.transyt_session.specs.WorkedSessions.{begun, in_trial, kept, ta
 ghost use Rattle.transyt_climb.specs.Way.{IsLocal};
 ghost use Rattle.transyt_climb.specs.WorkedTurns.{idle, by_last};
 ghost use Rattle.transyt_line_answers.specs.declared.answer.Answer.{Answer};
-ghost use Rattle.transyt_line_answers.specs.Commands.{after_answer, answer_text, answer_to, budget_of, climb_text, edit_code};
-ghost use Rattle.transyt_line_answers.specs.Commands.{judged};
+ghost use Rattle.transyt_line_answers.specs.Commands.{after_answer, answer_text, answer_to, budget_of, climb_text, judged};
+ghost use Rattle.transyt_line_answers.specs.Refusals.{edit_code};
 ghost use Rattle.transyt_line_answers.specs.Report.{deck_answering, report, run_state, status, steps_in};
 ghost use Rattle.transyt_line_answers.specs.Steps.{ArePlanned, IsLowering, LeadDown};
 ghost use Rattle.transyt_line_answers.specs.WorkedCommands.{climb_lines, some_climb, worked_answers};

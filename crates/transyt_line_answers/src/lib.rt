@@ -1,13 +1,10 @@
 //! Answers to the lines of a run: those to commands over a session, their texts, and the report of a deck and its
 //! commands as a definition.
 //!
-//! `specs/Commands` has the answer to a command, its text and the session after it, `specs/Report` the report of an
-//! input as a fold over its lines, `specs/Steps` the rules that a step of a climb keeps to. [`judge`] makes a line into
-//! an [`Answer`]; [`write_text`] writes it. A climb and a certificate are written by `transyt_reporter`, over desks.
-//!
-//! `specs/Report` is the report as a fold over the lines. `specs/Commands` has the answer to a command, its text
-//! and the session after it, `specs/Steps` the facts of each step of a climb. `answering` answers a command over a
-//! session, `refusing` says what was found where an edit is refused, `writing` writes the answer. `certifying` writes the lines of a certificate.
+//! `specs/Commands` has the answer to a command, its text and the session after it, `specs/Refusals` the code of a
+//! refused edit, `specs/Report` the report of an input as a fold over its lines, `specs/Steps` the rules that a step of a
+//! climb keeps to. [`judge`] makes a line into an [`Answer`]; [`write_text`] writes it. A climb and a certificate are
+//! written by `transyt_reporter`, over desks, the lines of a certificate by the calls here.
 #![tactic(auto)]
 
 mod answer;

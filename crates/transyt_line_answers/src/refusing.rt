@@ -1,6 +1,6 @@
 //! The refusal of an edit: its code, and what was found.
 ghost use Rattle.std.specs.Prelude.{◌≡◌, ◌≤◌, ◌↔◌, IsOk, IsTrue};
-ghost use Rattle.transyt_line_answers.specs.Commands.{edit_code, edit_in_range};
+ghost use Rattle.transyt_line_answers.specs.Refusals.{edit_code, edit_in_range};
 
 use transyt_deck::check_plan;
 use transyt_net::{Edit, EditFault, Net, Stage};
