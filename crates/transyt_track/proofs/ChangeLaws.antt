@@ -119,22 +119,17 @@ module _ (a b : Network) where
 -- equal nodes have equal times
 pub times_told : (told : Bool) (x y p q : NodeValue) → x ≡ p → y ≡ q → (IsTrue told ↔ SameTimes x y)
     → (IsTrue told ↔ SameTimes p q)
-times_told told x y p q old new is = (
-  λ t. subst (λ n. SameTimes n q) old (subst (SameTimes x) new (is.0 t)),
-  λ same. is.1 (subst (λ n. SameTimes n y) (sym old) (subst (SameTimes p) (sym new) same)),
-)
+times_told told x y p q old new is =
+    subst (λ n. IsTrue told ↔ SameTimes n q) old (subst (λ n. IsTrue told ↔ SameTimes x n) new is)
 
 -- with equal times, what tells that numbers are equal tells that the data are
 pub data_told : (a b : Network) (l : ℕ) (told : Bool) (x y : LinkValue) → x ≡ link_of a l → y ≡ link_of b l
     → (IsTrue told ↔ SameNumbers x y)
     → SameTimes (the_node a (link_of a l).node) (the_node b (link_of b l).node) → (IsTrue told ↔ HaveData a b l)
-data_told a b l told x y old new is times = (
-  λ t. record {
-    numbers = subst (λ z. SameNumbers z (link_of b l)) old (subst (SameNumbers x) new (is.0 t));
-    times = times;
-  },
-  λ have. is.1 (subst (λ z. SameNumbers z y) (sym old) (subst (SameNumbers (link_of a l)) (sym new) have.numbers)),
-)
+data_told a b l told x y old new is times =
+    let numbers : IsTrue told ↔ SameNumbers (link_of a l) (link_of b l) =
+    subst (λ z. IsTrue told ↔ SameNumbers z (link_of b l)) old (subst (λ z. IsTrue told ↔ SameNumbers x z) new is) in
+    (λ t. record { numbers = numbers.0 t; times = times }, λ have. numbers.1 have.numbers)
 
 -- one flag more is set, down where the fact holds
 pub down_more : (flags : List Bool) (l : ℕ) (d : Bool) (fact : ℕ → Type 0) → l < length flags

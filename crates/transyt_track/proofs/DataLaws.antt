@@ -5,10 +5,8 @@ use Rattle.std.specs.List.{range_with_len}
 use Rattle.std.proofs.lemmas.List.Elements.{All-head, All-tail}
 use Rattle.transyt_profile.specs.Profile.{uniform, added, shared}
 use Rattle.transyt_profile.specs.Platoon.{travel_steps, dispersed}
-use Rattle.transyt_parts.specs.declared.frame.Frame.{Frame}
 use Rattle.transyt_parts.specs.declared.link.Feed.{Feed}
 use Rattle.transyt_parts.specs.declared.link.GiveWay.{GiveWay}
-use Rattle.transyt_parts.specs.Parts.{NodeValue, total_flow}
 use Rattle.transyt_net.specs.Parts.{Network, link_of, perstep}
 use Rattle.transyt_net.specs.Edits.{the_node}
 use Rattle.transyt_net.specs.Valid.{place_of, link_numbers}
@@ -36,26 +34,12 @@ pub record SameReads (a : Network) (l : ℕ) (x y : ℕ → List ℕ) : Type 0 w
   pub feeds : All (λ f. x (link_place a f.feeder) ≡ y (link_place a f.feeder)) (link_of a l).feeds
   pub rule : IfSome (link_of a l).gives_way (λ r. x (link_place a r.other) ≡ y (link_place a r.other))
 
-abbrev green_by : Frame → NodeValue → List ℕ → ℕ → ℕ → ℕ → List ℕ
-green_by frame node stages start_lag end_lag saturation =
-    map (passed_at (shown_of frame.step_count node stages) start_lag end_lag (perstep frame saturation))
-    (range_with_len 0 frame.step_count)
-
 module _ (a b : Network) (l : ℕ) (data_same : SameData a b l) where
   signal_same : signal a l ≡ signal b l
   signal_same =
-      ap (λ fr. green_by fr (the_node a (link_of a l).node) (link_of a l).stages (link_of a l).start_lag
-      (link_of a l).end_lag (link_of a l).saturation) data_same.frame
-      ∙ ap (λ n. green_by b.frame n (link_of a l).stages (link_of a l).start_lag (link_of a l).end_lag
-      (link_of a l).saturation) data_same.node
-      ∙ ap (λ ks. green_by b.frame (the_node b (link_of b l).node) ks (link_of a l).start_lag (link_of a l).end_lag
-      (link_of a l).saturation) data_same.stages
-      ∙ ap (λ n. green_by b.frame (the_node b (link_of b l).node) (link_of b l).stages n (link_of a l).end_lag
-      (link_of a l).saturation) data_same.start_lag
-      ∙ ap (λ n. green_by b.frame (the_node b (link_of b l).node) (link_of b l).stages (link_of b l).start_lag n
-      (link_of a l).saturation) data_same.end_lag
-      ∙ ap (λ q. green_by b.frame (the_node b (link_of b l).node) (link_of b l).stages (link_of b l).start_lag
-      (link_of b l).end_lag q) data_same.saturation
+      (λ j. map (passed_at (shown_of (data_same.frame j).step_count (data_same.node j) (data_same.stages j))
+      (data_same.start_lag j) (data_same.end_lag j) (perstep (data_same.frame j) (data_same.saturation j)))
+      (range_with_len 0 (data_same.frame j).step_count))
 
   -- with no rule GO is the same, whatever is read
   pub green_same : (x y : ℕ → List ℕ) → (link_of b l).gives_way ≡ None → go a x l ≡ go b y l
@@ -71,16 +55,8 @@ module _ (a b : Network) (l : ℕ) (x y : ℕ → List ℕ) (data_same : SameDat
   brought_same : (f : Feed) → feeder_total a f ≡ feeder_total b f
       → x (link_place a f.feeder) ≡ y (link_place a f.feeder) → brought a x f ≡ brought b y f
   brought_same f total read =
-      ap (λ (fr : Frame). dispersed
-      (shared f.flow (total_flow (link_of a (link_place a f.feeder))) (x (link_place a f.feeder)))
-      (travel_steps f.cruise fr.step_count fr.cycle) fr.dispersion)
-      data_same.frame
-      ∙ ap (λ q. dispersed (shared f.flow q (x (link_place a f.feeder)))
-      (travel_steps f.cruise b.frame.step_count b.frame.cycle) b.frame.dispersion)
-      total
-      ∙ ap (λ o. dispersed (shared f.flow (total_flow (link_of b (link_place b f.feeder))) o)
-      (travel_steps f.cruise b.frame.step_count b.frame.cycle) b.frame.dispersion)
-      (read ∙ ap y (place_same f.feeder))
+      (λ j. dispersed (shared f.flow (total j) ((read ∙ ap y (place_same f.feeder)) j))
+      (travel_steps f.cruise (data_same.frame j).step_count (data_same.frame j).cycle) (data_same.frame j).dispersion)
 
   gathered_kept : (feeds : List Feed) (come : List ℕ)
       → All (λ f. feeder_total a f ≡ feeder_total b f) feeds
@@ -100,12 +76,8 @@ module _ (a b : Network) (l : ℕ) (x y : ℕ → List ℕ) (data_same : SameDat
   inflow_same =
       gathered_kept (link_of a l).feeds (uniform a.frame.step_count (perstep a.frame (link_of a l).entry))
       data_same.totals reads.feeds
-      ∙ ap (λ (fr : Frame). fold (λ c f. added c (brought b y f))
-      (uniform fr.step_count (perstep fr (link_of a l).entry)) (link_of a l).feeds) data_same.frame
-      ∙ ap (λ e. fold (λ c f. added c (brought b y f)) (uniform b.frame.step_count (perstep b.frame e))
-      (link_of a l).feeds) data_same.entry
-      ∙ ap (λ fs. fold (λ c f. added c (brought b y f))
-      (uniform b.frame.step_count (perstep b.frame (link_of b l).entry)) fs) data_same.feeds
+      ∙ (λ j. fold (λ c f. added c (brought b y f))
+      (uniform (data_same.frame j).step_count (perstep (data_same.frame j) (data_same.entry j))) (data_same.feeds j))
 
   under_rule_same : (rule : Option GiveWay) (green : List ℕ)
       → IfSome rule (λ r. x (link_place a r.other) ≡ y (link_place a r.other))
@@ -118,5 +90,4 @@ module _ (a b : Network) (l : ℕ) (x y : ℕ → List ℕ) (data_same : SameDat
   pub go_same : go a x l ≡ go b y l
   go_same =
       under_rule_same (link_of a l).gives_way (signal a l) reads.rule
-      ∙ ap (λ r. under_rule b y r (signal a l)) data_same.rule
-      ∙ ap (under_rule b y (link_of b l).gives_way) (signal_same a b l data_same)
+      ∙ (λ j. under_rule b y (data_same.rule j) (signal_same a b l data_same j))

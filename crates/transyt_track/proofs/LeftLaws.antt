@@ -9,7 +9,7 @@ use Rattle.transyt_parts.specs.declared.frame.Frame.{Frame}
 use Rattle.transyt_parts.specs.declared.link.Weights.{Weights}
 use Rattle.transyt_net.specs.Parts.{Network, link_of, SameShape}
 use Rattle.transyt_kept.specs.Cell.{CellValue}
-use Rattle.transyt_sweep.specs.Cell.{inflow, go, terms_frame, terms_of, cell_of}
+use Rattle.transyt_sweep.specs.Cell.{inflow, go, terms_frame, cell_of}
 use Rattle.transyt_sweep.specs.Sweeps.{out_of, read_of, cell_at, evaluated}
 use Rattle.transyt_kept.specs.Cell.{no_figures}
 use Rattle.transyt_kept.specs.Rows.{RowsValue, shown_at, with_figures}
@@ -30,13 +30,6 @@ figures_by frame weights come room = figures (record {
   frame = terms_frame frame;
   weights = weights;
 })
-
--- by the same frame, weights alone make a difference
-figures_weighed : (a b : Network) (l : ℕ) → a.frame ≡ b.frame → (come room : List ℕ)
-    → reweighed b l (figures (terms_of a l come room)) ≡ figures (terms_of b l come room)
-figures_weighed a b l frame come room =
-    ap (λ (f : Frame). reweighed b l (figures_by f (link_of a l).weights come room))
-    frame
 
 -- an evaluation weighed anew stays
 pub weighed_self : (net : Network) (l : ℕ)
@@ -78,11 +71,10 @@ module _ (a b : Network) (s l : ℕ) (same : SameShape a b) (inside : l < length
   left_worked =
       let come : List ℕ = inflow a (read_of a s l) l in
       let room : List ℕ = go a (read_of a s l) l in
-      let weighed : reweighed b l (figures (terms_of a l come room)) ≡ figures (terms_of b l come room) =
-      figures_weighed a b l (shape_frame a b same) come room in
-      ap (λ (f : Figures). record (cell_of a l come room) { figures = f }) weighed
-      ∙ ap (λ c. cell_of b l c room) come_same
-      ∙ ap (cell_of b l (inflow b (read_of b s l) l)) room_same
+      (λ j. record (cell_of a l come room) {
+        figures = reweighed b l (figures_by (shape_frame a b same j) (link_of a l).weights come room);
+      })
+      ∙ (λ j. cell_of b l (come_same j) (room_same j))
 
   -- so it leaves what it left
   pub left_out : 1 ≤ s → out_of a s l ≡ out_of b s l

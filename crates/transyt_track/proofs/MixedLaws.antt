@@ -30,8 +30,7 @@ step_at {A} f g t k s l same = by (cases_eq t s) (cases_eq k l)
     by : (t ≡ s) ⊎ (t ≡ s → ⊥) → (k ≡ l) ⊎ (k ≡ l → ⊥)
         → (if is_before t k s l then f t k else g t k) ≡ (if is_before t k s (l + 1) then f t k else g t k)
     by (inl sweep) (inl link) =
-        ap (λ u. if is_before u k s l then f u k else g u k) sweep
-        ∙ ap (λ u. if is_before s u s l then f s u else g s u) link
+        (λ j. if is_before (sweep j) (link j) s l then f (sweep j) (link j) else g (sweep j) (link j))
         ∙ ap (λ b. cond b (f s l) (g s l)) (before_here s l)
         ∙ sym same
         ∙ sym (ap (λ b. cond b (f s l) (g s l)) (before_self s l))
@@ -115,8 +114,7 @@ module _ (net : Network) (f g : ℕ → CellValue) (s l : ℕ) (rows : RowsValue
     pub shown_now : net.frame.sweeps ≡ s → l < length net.links → shown_at rows l ≡ g l
     shown_now last inside =
         mixed.shown l inside
-        ∙ ap (λ u. cond (is_before u l s l) (f l) (g l)) last
-        ∙ ap (λ b. cond b (f l) (g l)) (before_here s l)
+        ∙ ap (λ b. cond b (f l) (g l)) (ap (λ u. is_before u l s l) last ∙ before_here s l)
 
     -- at the end of a sweep the next begins
     pub shown_turn : length net.links ≡ l → AreShownMixed net f g (s + 1) 0 rows

@@ -1,6 +1,7 @@
 -- Equal own data give a link equal lags, flows and green on networks of one shape.
 use Rattle.std.proofs.Common.{◌≡◌, ℕ, ◌<◌, true, false, cond, List, [], ◌∷◌, All, Some, length, map, nat_eq, get_or}
 use Rattle.std.proofs.Common.{refl, ap, sym, ◌∙◌, arith}
+use Rattle.std.proofs.lemmas.Simd.{map-map}
 use Rattle.std.proofs.lemmas.List.{get_or-map}
 use Rattle.std.proofs.lemmas.List.Elements.{All-nil, All-cons}
 use Rattle.transyt_parts.specs.declared.node.Stage.{Stage}
@@ -60,13 +61,8 @@ numbered_bare (x ∷ xs) (y ∷ ys) k h =
 -- links of one shape have equal numbers
 pub numbers_same : (xs ys : List LinkValue) → map bare_link xs ≡ map bare_link ys → map link_number xs
     ≡ map link_number ys
-numbers_same [] [] h = refl
-numbers_same [] (y ∷ ys) h = absurd (cc)
-numbers_same (x ∷ xs) [] h = absurd (cc)
-numbers_same (x ∷ xs) (y ∷ ys) h =
-    let bare : bare_link x ≡ bare_link y = cc in
-    let rest : map bare_link xs ≡ map bare_link ys = cc in
-    (λ j. ap (λ (l : LinkValue). l.number) bare j ∷ numbers_same xs ys rest j)
+numbers_same xs ys same =
+    sym (map-map link_number bare_link xs) ∙ ap (map link_number) same ∙ map-map link_number bare_link ys
 
 feeds_same : (fs gs : List Feed) → map bare_feed fs ≡ map bare_feed gs → map flow_of fs ≡ map flow_of gs
     → map cruise_of fs ≡ map cruise_of gs → fs ≡ gs

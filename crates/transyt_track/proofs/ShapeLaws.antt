@@ -1,6 +1,9 @@
 -- Networks of one shape have equal counts, numbers, feeders and rules, so places are the same in both.
-use Rattle.std.proofs.Common.{◌≡◌, ℕ, ◌<◌, List, [], ◌∷◌, length, map, Option, Some, None, All, IfSome}
+use Rattle.std.proofs.Common.{◌≡◌, ℕ, ◌<◌, List, length, map, All, IfSome}
 use Rattle.std.proofs.Common.{refl, ap, sym, subst, get_or, ◌∙◌, arith}
+use Rattle.std.specs.Option.{option_map}
+use Rattle.std.proofs.lemmas.Simd.{map-map}
+use Rattle.transyt_parts.specs.declared.frame.Frame.{Frame}
 use Rattle.transyt_parts.specs.declared.link.Feed.{Feed}
 use Rattle.transyt_parts.specs.declared.link.GiveWay.{GiveWay}
 use Rattle.transyt_parts.specs.Parts.{NodeValue, LinkValue}
@@ -9,38 +12,25 @@ use Rattle.transyt_parts.specs.Valid.{node_number}
 use Rattle.transyt_parts.proofs.CopyLaws.{same_length}
 use Rattle.transyt_net.specs.Parts.{Network, link_of, SameShape}
 use Rattle.transyt_net.specs.Valid.{place_of, found_or_first, link_place}
-use Rattle.transyt_track.specs.Own.{feeder_place, rule_place, node_place, places_at, ArePlaces, PlacesValue}
+use Rattle.transyt_kept.specs.Rows.{RowsValue}
+use Rattle.transyt_sweep.specs.Reading.{Fits}
+use Rattle.transyt_track.specs.Own.{feeder_place, node_place, places_at, ArePlaces, PlacesValue}
 use Rattle.transyt_track.specs.Own.{IsRead}
 use Rattle.transyt_track.proofs.OwnLaws.{numbers_same, bare_at}
 use Rattle.transyt_track.proofs.PlaceLaws.{place_read, feeders_inside, rule_inside}
 
 node_numbers_same : (xs ys : List NodeValue) → map bare_node xs ≡ map bare_node ys
     → map node_number xs ≡ map node_number ys
-node_numbers_same [] [] h = refl
-node_numbers_same [] (y ∷ ys) h = absurd (cc)
-node_numbers_same (x ∷ xs) [] h = absurd (cc)
-node_numbers_same (x ∷ xs) (y ∷ ys) h =
-    let bare : bare_node x ≡ bare_node y = cc in
-    let rest : map bare_node xs ≡ map bare_node ys = cc in
-    (λ j. ap (λ (n : NodeValue). n.number) bare j ∷ node_numbers_same xs ys rest j)
+node_numbers_same xs ys same =
+    sym (map-map node_number bare_node xs) ∙ ap (map node_number) same ∙ map-map node_number bare_node ys
 
 feeder_places_same : (a b : Network) → ((number : ℕ) → link_place a number ≡ link_place b number)
     → (fs gs : List Feed) → map bare_feed fs ≡ map bare_feed gs
     → map (feeder_place a) fs ≡ map (feeder_place b) gs
-feeder_places_same a b place [] [] h = refl
-feeder_places_same a b place [] (g ∷ gs) h = absurd (cc)
-feeder_places_same a b place (f ∷ fs) [] h = absurd (cc)
-feeder_places_same a b place (f ∷ fs) (g ∷ gs) h =
-    let bare : bare_feed f ≡ bare_feed g = cc in
-    let rest : map bare_feed fs ≡ map bare_feed gs = cc in
-    let here : feeder_place a f ≡ feeder_place b g =
-    place f.feeder ∙ ap (λ (x : Feed). link_place b x.feeder) bare in
-    (λ j. here j ∷ feeder_places_same a b place fs gs rest j)
-
-rule_place_same : (a b : Network) → ((number : ℕ) → link_place a number ≡ link_place b number)
-    → (rule : Option GiveWay) → rule_place a rule ≡ rule_place b rule
-rule_place_same a b place None = refl
-rule_place_same a b place (Some rule) = ap (λ p. Some p) (place rule.other)
+feeder_places_same a b place fs gs same =
+    sym (map-map (feeder_place a) bare_feed fs)
+    ∙ (λ j. map (λ (f : Feed). place f.feeder j) (same j))
+    ∙ map-map (feeder_place b) bare_feed gs
 
 module _ (a b : Network) (same : SameShape a b) where
   pub shape_frame : a.frame ≡ b.frame
@@ -51,6 +41,14 @@ module _ (a b : Network) (same : SameShape a b) where
 
   pub shape_nodes : length a.nodes ≡ length b.nodes
   shape_nodes = same_length bare_node a.nodes b.nodes (ap (λ (n : Network). n.nodes) same)
+
+  -- rows that fit one network fit each of its shape
+  pub fits_shape : (rows : RowsValue) → Fits a rows → Fits b rows
+  fits_shape rows fits = record {
+    step_count = fits.step_count ∙ ap (λ (f : Frame). f.step_count) shape_frame;
+    sweeps = fits.sweeps ∙ ap (λ (f : Frame). f.sweeps) shape_frame;
+    link_count = fits.link_count ∙ shape_count;
+  }
 
   pub shape_link_place : (number : ℕ) → link_place a number ≡ link_place b number
   shape_link_place number =
@@ -66,14 +64,13 @@ module _ (a b : Network) (same : SameShape a b) where
   shape_places l inside =
       let bare : bare_link (link_of a l) ≡ bare_link (link_of b l) =
       bare_at a.links b.links l (ap (λ (n : Network). n.links) same) inside in
-      let node : node_place a (link_of a l).node ≡ node_place b (link_of b l).node =
-      shape_node_place (link_of a l).node ∙ ap (λ (x : LinkValue). node_place b x.node) bare in
       let feeders = feeder_places_same a b shape_link_place (link_of a l).feeds (link_of b l).feeds
       (ap (λ (x : LinkValue). x.feeds) bare) in
-      let rule : rule_place a (link_of a l).gives_way ≡ rule_place b (link_of b l).gives_way =
-      rule_place_same a b shape_link_place (link_of a l).gives_way
-      ∙ ap (λ (x : LinkValue). rule_place b x.gives_way) bare in
-      (λ j. record { node = node j; feeders = feeders j; rule = rule j })
+      (λ j. record {
+        node = shape_node_place (bare j).node j;
+        feeders = feeders j;
+        rule = option_map (λ (way : GiveWay). shape_link_place way.other j) (bare j).gives_way;
+      })
 
   -- it reads links of both
   pub reads_inside : (l count : ℕ) → l < length b.links → length b.links ≡ count

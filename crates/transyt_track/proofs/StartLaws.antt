@@ -30,7 +30,7 @@ use Rattle.transyt_track.proofs.FrontLaws.{turned_sweep}
 use Rattle.transyt_track.proofs.CompareLaws.{none_up, none_of}
 use Rattle.transyt_track.proofs.ChangeLaws.{own_flag}
 use Rattle.transyt_track.proofs.DueLaws.{same_out, differs_is}
-use Rattle.transyt_track.proofs.ShapeLaws.{shape_count, shape_frame, shape_places, reads_inside}
+use Rattle.transyt_track.proofs.ShapeLaws.{fits_shape, shape_count, shape_frame, shape_places, reads_inside}
 
 -- before the first sweep the same departures are read all along
 read_first : (l m : ℕ) → read_at 0 l m ≡ 0
@@ -91,8 +91,7 @@ module _ (a b : Network) (same : SameShape a b) where
   start_differs l some =
       let steps : a.frame.step_count ≡ b.frame.step_count = ap (λ (f : Frame). f.step_count) (shape_frame a b same) in
       sym (differs_is a b 0 l
-      ∙ ap (λ xs. not (bytes_eq xs (out_of b 0 l))) (out_of_start a l)
-      ∙ ap (λ xs. not (bytes_eq (start a l) xs)) (out_of_start b l)
+      ∙ (λ j. not (bytes_eq (out_of_start a l j) (out_of_start b l j)))
       ∙ ap (λ n. not (bytes_eq (uniform n (perstep a.frame (total_flow (link_of a l)))) (start b l))) steps
       ∙ ap not (uniform_told b.frame.step_count (perstep a.frame (total_flow (link_of a l)))
       (perstep b.frame (total_flow (link_of b l))) some))
@@ -110,11 +109,7 @@ module _ (a b : Network) (same : SameShape a b) where
       → AreFlagged a b own_changed out_changed → AreAt a b 0 0 rows out_changed
   start_at range rows own_changed out_changed evaluation flagged = record {
     outs = record {
-      fits = record {
-        step_count = evaluation.fits.step_count ∙ ap (λ (f : Frame). f.step_count) (shape_frame a b same);
-        sweeps = evaluation.fits.sweeps ∙ sweeps;
-        link_count = evaluation.fits.link_count ∙ shape_count a b same;
-      };
+      fits = fits_shape a b same rows evaluation.fits;
       outs = λ t k within there.
           evaluation.outs t k (omega (arith, sweeps)) (omega (arith, shape_count a b same))
           ∙ sym (ap (λ w. cond w (out_of b t k) (out_of a t k)) (not_before_first t k 0 (omega arith)));

@@ -4,7 +4,6 @@ use Rattle.std.specs.Option.{option_map}
 use Rattle.transyt_parts.specs.declared.frame.Frame.{Frame}
 use Rattle.transyt_net.specs.Parts.{Network, shape, SameShape}
 use Rattle.transyt_kept.specs.Rows.{RowsValue}
-use Rattle.transyt_sweep.specs.Reading.{Fits}
 use Rattle.transyt_sweep.specs.Front.{AreEvaluation}
 use Rattle.transyt_kept.specs.Marked.{KeptValue}
 use Rattle.transyt_track.specs.Own.{PlacesValue, ArePlaces, all_places}
@@ -20,14 +19,6 @@ pub shape_inside : {was now other seen : TrackerValue} → was ≡ now → other
     → SameShape was.net other.net
 shape_inside here there same =
     ap (λ (t : TrackerValue). shape t.net) here ∙ same ∙ sym (ap (λ (t : TrackerValue). shape t.net) there)
-
--- rows that fit one network fit each of its shape
-pub fits_shape : (a b : Network) → SameShape a b → (rows : RowsValue) → Fits a rows → Fits b rows
-fits_shape a b same rows fits = record {
-  step_count = fits.step_count ∙ ap (λ (f : Frame). f.step_count) (shape_frame a b same);
-  sweeps = fits.sweeps ∙ ap (λ (f : Frame). f.sweeps) (shape_frame a b same);
-  link_count = fits.link_count ∙ shape_count a b same;
-}
 
 -- room for one network is room for each of its shape
 room_shape : (a b : Network) → SameShape a b → (front : Front) → HasRoom a front → HasRoom b front

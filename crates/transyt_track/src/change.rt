@@ -41,6 +41,17 @@ pub(crate) struct ChangedLink<'a, 'b> {
     ghost places_after: { places.now ≡ places_at change.now.after.now link },
 }
 
+/// A sweep of a change.
+#[derive(Clone, Copy)]
+pub(crate) struct ChangedSweep<'a, 'b> {
+    /// The change.
+    pub(crate) change: &'a Change<'b>,
+    /// The number of the sweep, from 1.
+    pub(crate) number: u32,
+    ghost first: { 1 ≤ number },
+    ghost last: { number ≤ change.now.after.now.frame.sweeps },
+}
+
 /// A link at a sweep of a change.
 #[derive(Clone, Copy)]
 pub(crate) struct Pair<'a, 'b> {

@@ -9,7 +9,7 @@ ghost use Rattle.transyt_track.specs.Due.{is_due, due_at, due};
 ghost use Rattle.transyt_track.specs.Change.{HasRoom, IsFront};
 ghost use Rattle.transyt_track.specs.Front.{flag};
 
-use crate::change::{Change, Front, Pair};
+use crate::change::{Change, ChangedSweep, Front, Pair};
 use crate::reading::is_due;
 use crate::replacing::{Differs, leave, place};
 use crate::starting::set_out;
@@ -81,32 +81,29 @@ fn turn<L: Ledger>(pair: &Pair<'_, '_>, front: &mut Front, steps: &mut Steps<L>)
     }
 }
 
-/// One sweep: a turn for each link in order. Returns how many links were due.
-fn sweep_links<L: Ledger>(
-    change: &Change<'_>,
-    sweep: u32,
-    front: &mut Front,
-    steps: &mut Steps<L>,
-) -> u64
-    requires first { 1 ≤ sweep }
-    requires last { sweep ≤ change.now.after.now.frame.sweeps }
-    requires front { IsFront change.now sweep 0 front.old }
-    ensures front { IsFront change.now (sweep + 1) 0 front.new }
-    ensures marked { front.new.kept.marked ≡ front.old.kept.marked }
-    ensures count { result ≡ due_at change.now.before.now change.now.after.now sweep }
-    ensures few { result ≤ 1000 }
-    ensures steps { steps.new ≡ steps.old + result }
-{
-    let mut count = 0;
-    for link in 0..change.after.links().len() {
-        let pair = Pair {
-            change: &*change,
-            sweep,
-            link,
-        };
-        count += turn(&pair, front, steps);
+impl ChangedSweep<'_, '_> {
+    /// A turn for each link in order. Returns how many links were due.
+    fn follow<L: Ledger>(&self, front: &mut Front, steps: &mut Steps<L>) -> u64
+        requires { IsFront self.now.change.now self.now.number 0 front.old }
+        ensures front { IsFront self.now.change.now (self.now.number + 1) 0 front.new }
+        ensures marked { front.new.kept.marked ≡ front.old.kept.marked }
+        ensures count { result ≡ due_at self.now.change.now.before.now self.now.change.now.after.now
+            self.now.number }
+        ensures steps { steps.new ≡ steps.old + result }
+    {
+        let change = self.change;
+        let sweep = self.number;
+        let mut count = 0;
+        for link in 0..change.after.links().len() {
+            let pair = Pair {
+                change,
+                sweep,
+                link,
+            };
+            count += turn(&pair, front, steps);
+        }
+        count
     }
-    count
 }
 
 /// The rows go over from one network to another. Returns how many pairs of a link and a sweep were due.
@@ -126,8 +123,12 @@ pub(crate) fn follow_rows<L: Ledger>(
 {
     set_out(change, front);
     let mut count = 0;
-    for sweep in 1..change.after.frame().sweeps + 1 {
-        count += sweep_links(change, sweep, front, steps);
+    for number in 1..change.after.frame().sweeps + 1 {
+        let sweep = ChangedSweep {
+            change: &*change,
+            number,
+        };
+        count += sweep.follow(front, steps);
     }
     count
 }

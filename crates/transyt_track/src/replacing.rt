@@ -12,16 +12,18 @@ use transyt_kept::Rows;
 use transyt_sweep::{Scratch, reweigh};
 
 /// Writes a link's departures at a sweep from a scratch, where they differ.
-fn place_out(sweep: u32, link: usize, differs: bool, scratch: &Scratch, kept: &mut Rows)
-    requires sweep { sweep ≤ kept.old.now.sweeps }
-    requires link { link < length kept.old.now.figures }
+fn place_out(pair: &Pair<'_, '_>, differ: bool, scratch: &Scratch, kept: &mut Rows)
+    requires sweep { pair.now.sweep ≤ kept.old.now.sweeps }
+    requires link { pair.now.link < length kept.old.now.figures }
     requires steps { length scratch.now.arrivals ≡ kept.old.now.step_count }
-    requires same { differs ≡ false → out_at kept.old.now sweep link ≡ scratch.now.out }
-    ensures { kept.new ≡ record
-        kept.old { now = with_out kept.old.now sweep link scratch.now.out } }
+    requires same { differ ≡ false
+        → out_at kept.old.now pair.now.sweep pair.now.link ≡ scratch.now.out }
+    ensures { kept.new ≡ record kept.old {
+      now = with_out kept.old.now pair.now.sweep pair.now.link scratch.now.out;
+    } }
 {
-    if differs {
-        kept.put_out(sweep, link, scratch.out());
+    if differ {
+        kept.put_out(pair.sweep, pair.link, scratch.out());
     }
 }
 
@@ -68,7 +70,7 @@ pub(crate) fn place(pair: &Pair<'_, '_>, differs: Differs, front: &mut Front)
     let sweep = pair.sweep;
     let link = pair.link;
     front.kept.index();
-    place_out(sweep, link, differs.out, &front.scratch, &mut front.kept);
+    place_out(pair, differs.out, &front.scratch, &mut front.kept);
     if sweep == net.frame().sweeps {
         place_shown(link, differs.go, &front.scratch, &mut front.kept);
     }

@@ -9,7 +9,7 @@ ghost use Rattle.transyt_net.specs.Parts.{SameShape};
 ghost use Rattle.transyt_sweep.specs.Front.{AreEvaluation};
 ghost use Rattle.transyt_sweep.specs.Sweeps.{out_of, evaluated, index};
 ghost use Rattle.transyt_track.specs.Due.{due};
-ghost use Rattle.transyt_track.specs.Tracker.{tracker_of, unmarked, AreOfMark, IsTracking};
+ghost use Rattle.transyt_track.specs.Tracker.{unmarked};
 
 use crate::change::{Change, Front};
 use crate::found::Found;
@@ -111,7 +111,12 @@ impl Tracker {
             out_changed: room.out_changed,
             scratch: room.scratch,
         };
-        Ok(Tracker::of_parts(nets.0, nets.1, front, room.places))
+        Ok(Tracker {
+            net: nets.0,
+            marked: nets.1,
+            places: room.places,
+            front,
+        })
     }
 
     /// Two copies of a network.
@@ -125,19 +130,6 @@ impl Tracker {
             return Err(AllocError);
         };
         Ok((first, second))
-    }
-
-    /// The tracker of these parts.
-    fn of_parts(net: Net, marked: Net, front: Front, places: Vec<Places>) -> Tracker
-        requires { IsTracking net marked front places.items }
-        ensures { result ≡ tracker_of net front.kept.marked marked }
-    {
-        Tracker {
-            net,
-            marked,
-            places,
-            front,
-        }
     }
 
     /// The network that it stands for.

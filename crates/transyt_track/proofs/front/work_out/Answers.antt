@@ -45,8 +45,7 @@ returns-clause-front g c =
     let out = c.differ-out.result in
     let told : out ≡ not (bytes_eq (out_at rows p.sweep p.link) new.out) =
     c.differ-out.ensures
-    ∙ ap (λ xs. not (bytes_eq xs c.out-2.result.now)) c.out.ensures.value
-    ∙ ap (λ xs. not (bytes_eq (out_at rows p.sweep p.link) xs)) c.out-2.ensures.value in
+    ∙ (λ j. not (bytes_eq (c.out.ensures.value j) (c.out-2.ensures.value j))) in
     record {
       at = rw (c.place.ensures.value, c.place.ensures.out_changed) (worked_turn p.change.now.before.now b p.sweep p.link
           rows c.args.front.now.out_changed.items r.at p.change.now.same_shape p.first p.last p.inside new

@@ -1,6 +1,5 @@
 -- One link more.
-use Rattle.std.proofs.Common.{◌≡◌, [], ◌∷◌, ◌++◌, map, sym, ap, ◌∙◌, arith, rules}
-use Rattle.std.specs.List.{range_with_len}
+use Rattle.std.proofs.Common.{◌≡◌, [], ◌∷◌, ◌++◌, sym, ◌∙◌, arith, rules}
 use Rattle.std.proofs.lemmas.List.FromFn.{map-range_with_len_more}
 use Rattle.transyt_track.specs.Own.{places_at}
 use Rattle.transyt_track.proofs.own.all_places.Goals as goal
@@ -12,6 +11,5 @@ loop-link-preserved c =
     let pushed : c.push.new.self.items ≡ c.loop-link.places.items ++ p ∷ [] = search rules in
     let is : p ≡ places_at c.args.net.now l = search rules in
     pushed
-    ∙ ap (λ xs. xs ++ p ∷ []) c.loop-link.invariant
-    ∙ ap (λ q. map (places_at c.args.net.now) (range_with_len 0 l) ++ q ∷ []) is
+    ∙ (λ j. c.loop-link.invariant j ++ is j ∷ [])
     ∙ sym (map-range_with_len_more (places_at c.args.net.now) 0 l l (omega arith))

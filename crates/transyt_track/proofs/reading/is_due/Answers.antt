@@ -30,12 +30,10 @@ returns c =
     let places = c.places.view_is ∙ c.link.ensures.read.places_before in
     let fed : c.any_changed-fed.result ≡ list_any (flag changed) (places_at a p.link).feeders =
     c.any_changed-fed.ensures
-    ∙ ap (λ fs. list_any (flag fs) c.deref-2.result.now) c.deref.ensures.value
-    ∙ ap (list_any (flag changed)) (c.deref-2.ensures.value ∙ ap (λ (q : PlacesValue). q.feeders) places) in
+    ∙ (λ j. list_any (flag (c.deref.ensures.value j))
+    ((c.deref-2.ensures.value ∙ ap (λ (q : PlacesValue). q.feeders) places) j)) in
     let barred : c.is_changed-barred.result ≡ option_map_or (flag changed) (places_at a p.link).rule false =
     c.is_changed-barred.ensures
-    ∙ ap (λ fs. option_map_or (flag fs) c.places.inside.rule false) c.deref-3.ensures.value
-    ∙ ap (λ (q : PlacesValue). option_map_or (flag changed) q.rule false) places in
-    ap (λ x. own || x || c.is_changed-barred.result) fed
-    ∙ ap (λ x. own || list_any (flag changed) (places_at a p.link).feeders || x) barred
+    ∙ (λ j. option_map_or (flag (c.deref-3.ensures.value j)) (places j).rule false) in
+    (λ j. own || fed j || barred j)
     ∙ due_told a b p.sweep p.link c.args.front.now.kept.now changed r.at p.change.now.same_shape p.inside own owned

@@ -4,11 +4,11 @@ use Rattle.std.proofs.lemmas.List.{set-get_or}
 use Rattle.transyt_kept.specs.Rows.{RowsValue, pair_place, with_out}
 use Rattle.transyt_track.proofs.replacing.place_out.Goals as goal
 
-pub returns-else-differs : goal.returns-else-differs
-returns-else-differs c =
+pub returns-else-differ : goal.returns-else-differ
+returns-else-differ c =
     let rows = c.args.kept.now.now in
-    let s = c.args.sweep in
-    let l = c.args.link in
+    let s = c.args.pair.now.sweep in
+    let l = c.args.pair.now.link in
     ap (λ (r : RowsValue). record c.args.kept.now { now = r })
     (ap (λ o. record rows { outs = o }) (sym (set-get_or rows.outs (pair_place rows s l) []))
-    ∙ ap (with_out rows s l) (c.requires.same c.if-differs.false))
+    ∙ ap (with_out rows s l) (c.requires.same c.if-differ.false))

@@ -21,8 +21,8 @@ loop-link-preserved c =
     elim c.if-out_changed-link.branch [
       | then-out_changed-link w ↦
           let started : uniform c.loop-link.kept.now.step_count w.per_step.result ≡ start b l =
-          ap (λ n. uniform n w.per_step.result) i.at.outs.fits.step_count
-          ∙ ap (uniform b.frame.step_count) (w.per_step.ensures.value ∙ ap (perstep b.frame) w.total_flow.ensures.value) in
+          (λ j. uniform (i.at.outs.fits.step_count j)
+          ((w.per_step.ensures.value ∙ ap (perstep b.frame) w.total_flow.ensures.value) j)) in
           record {
             at = rw (w.kept-is, w.fill_out.ensures.value, started)
                 (started_put a b same l c.loop-link.kept.now c.args.out_changed.now i.at inside some w.fill_out.ensures.kept);

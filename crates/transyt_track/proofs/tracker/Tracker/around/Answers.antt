@@ -3,8 +3,8 @@ use Rattle.transyt_track.specs.declared.change.Front.{Front}
 use Rattle.transyt_track.proofs.TrackLaws.{opened_tracks}
 use Rattle.transyt_track.proofs.tracker.Tracker.around.Goals as goal
 
-pub of_parts-requires : goal.of_parts-requires
-of_parts-requires c =
+pub invariant_of-result : goal.invariant_of-result
+invariant_of-result c =
     let room = c.in-Ok.room in
     let say = c.in-Ok.ensures in
     let front : Front = record {

@@ -1,7 +1,8 @@
 -- The rows are those of the other tracker.
 use Rattle.std.proofs.Common.{ap, sym, ◌∙◌}
 use Rattle.transyt_track.specs.Tracker.{TrackerValue}
-use Rattle.transyt_track.proofs.TrackLaws.{shape_inside, fits_shape, no_mark, closed_tracks}
+use Rattle.transyt_track.proofs.ShapeLaws.{fits_shape}
+use Rattle.transyt_track.proofs.TrackLaws.{shape_inside, no_mark, closed_tracks}
 use Rattle.transyt_track.proofs.tracker.Tracker.take_over.Goals as goal
 
 pub copy_rows-requires-clause-fits : goal.copy_rows-requires-clause-fits

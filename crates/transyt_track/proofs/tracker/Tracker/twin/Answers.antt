@@ -26,10 +26,6 @@ copy_rows-requires c =
       from = was;
     }
 
-pub around-requires-clause-closed : goal.around-requires-clause-closed
-around-requires-clause-closed c =
-    c.copy_rows.ensures.marked ∙ ap (λ (k : KeptValue). k.marked) c.in_ok-kept.ensures
-
 pub returns : goal.returns
 returns c =
     let i = c.self.inside in

@@ -2,7 +2,7 @@
 use Rattle.std.proofs.Common.{◌≡◌, ◌+◌}
 use Rattle.transyt_track.specs.Due.{due_in}
 use Rattle.transyt_track.specs.Change.{IsFront}
-use Rattle.transyt_track.proofs.front.sweep_links.Given as goal
+use Rattle.transyt_track.proofs.change.ChangedSweep.follow.Given as goal
 
 -- those so far had their turn, in a step for each that was due
 abbrev pub invariant-loop-link : goal.invariant-loop-link
