@@ -51,55 +51,6 @@ places_both net from first second both next both_is next_is =
     ap (flat_map (place_text net)) (range_both from first second both next both_is next_is)
     ∙ flat_map-append (place_text net) (range_with_len from first) (range_with_len next second)
 
--- the lines of a batch more are written
-pub batch_printed : {T E : Type 0} {v : T} (net : Network) (from count next : ℕ) (a b c : Option (List ℕ)) {f g h : ℕ}
-    → next ≡ from + count → Printed a b f g (places_text net 0 from)
-    → Prints {T = T} {E = E} b c g h (Ok v) (places_text net from count) → Printed a c f h (places_text net 0 next)
-batch_printed net from count next a b c is before batch = record {
-  adds =
-      adds_same a c _ _ (sym (places_both net 0 from count next from is (omega arith)))
-      (adds_both a b c (places_text net 0 from) (places_text net from count) before.adds batch.ok);
-  later = omega (arith, before.later, batch.cause.later);
-}
-
--- a remark after it changes nothing that is written
-pub remarked : {a b c : Option (List ℕ)} {f g h : ℕ} {text : List ℕ} → Printed a b f g text → c ≡ b → h ≡ g
-    → Printed a c f h text
-remarked {a} {text = text} so written faults = record {
-  adds = subst (λ (held : Option (List ℕ)). Adds a held text) (sym written) so.adds;
-  later = omega (arith, so.later, faults);
-}
-
--- the lines of a batch broke off
-pub batch_broken : {T U E : Type 0} {e : E} (r : Result T E) (v : T) (net : Network) (from count places : ℕ)
-    (a b c : Option (List ℕ)) {f g h : ℕ} → IsErr r → places ≡ move_count net → from + count ≤ places
-    → Printed a b f g (places_text net 0 from) → Prints {T = U} {E = E} b c g h (Err e) (places_text net from count)
-    → Prints {T = T} {E = E} a c f h r (cert_text net)
-batch_broken {T} {U} {E} {e} r v net from count places a b c {g = g} {h = h} failed all inside before batch =
-    let broken : Prints {T = T} {E = E} b c g h (Err e) (places_text net from count) =
-    record { ok = tt; err = batch.err; cause = record { later = batch.cause.later; failed = batch.cause.failed } } in
-    let done = places_text net 0 from in
-    let lines = places_text net from count in
-    let more = places_text net (from + count) (move_count net - (from + count)) in
-    let last = last_text (move_count net) (index net) in
-    let text : places_text net 0 (move_count net) ≡ (done ++ lines) ++ more =
-    places_both net 0 (from + count) (move_count net - (from + count)) (move_count net) (from + count) (omega arith) (omega arith)
-    ∙ ap (λ (l : List ℕ). l ++ more) (places_both net 0 from count (from + count) from refl (omega arith)) in
-    prints_same a c r _ _
-    (prints_front r (done ++ lines) (more ++ last) failed (prints_both (Err e) done lines (whole v done before) broken))
-    (sym (text_by_place net ∙ ap (λ (l : List ℕ). l ++ last) text ∙ append_assoc (done ++ lines) more last))
-
--- all lines are written, and then the last
-pub lines_ended : {T E : Type 0} (r : Result T E) (v : T) (net : Network) (from : ℕ) (a b c : Option (List ℕ)) {f g h : ℕ}
-    → from ≡ move_count net → Printed a b f g (places_text net 0 from)
-    → Prints {T = T} {E = E} b c g h r (last_text (move_count net) (index net))
-    → Prints {T = T} {E = E} a c f h r (cert_text net)
-lines_ended r v net from a b c all before last =
-    prints_same a c r _ _
-    (prints_both r (places_text net 0 from) (last_text (move_count net) (index net))
-    (whole v (places_text net 0 from) before) last)
-    (ap (λ (n : ℕ). places_text net 0 n ++ last_text (move_count net) (index net)) all ∙ sym (text_by_place net))
-
 -- the work of more places
 pub work_more : (net : Network) (from count : ℕ)
     → cert_work net from + places_work net from count ≡ cert_work net (from + count)
@@ -114,20 +65,28 @@ work_next net from count =
     let more = cert_more net from (from + count) (omega arith) in
     omega (arith, next, more)
 
--- Desks of which desk 0 has certified the first places: their work was added, and with one desk as many steps were made.
-pub record AreCertified (desks after : List SessionValue) (from steps steps_new : ℕ) : Type 0 where
-  pub state : desk_zero after ≡ credited (cert_work (desk_zero desks).net from) (desk_zero desks)
+-- Desks of which desk 0 has certified the first of all places: their work was added, and with one desk as many steps were
+-- made.
+pub record AreCertified (desks now : List SessionValue) (places from begun spent : ℕ) : Type 0 where
+  pub all : places ≡ move_count (desk_zero desks).net
+  pub most : places ≤ 57600
+  pub inside : from ≤ places
+  pub state : desk_zero now ≡ credited (cert_work (desk_zero desks).net from) (desk_zero desks)
   pub small : cert_work (desk_zero desks).net from ≤ 8000 * from
-  pub alike : AreAlike after
-  pub len : length after ≡ length desks
-  pub made : length desks ≡ 1 → steps_new ≡ steps + cert_work (desk_zero desks).net from
+  pub alike : AreAlike now
+  pub len : length now ≡ length desks
+  pub made : length desks ≡ 1 → spent ≡ begun + cert_work (desk_zero desks).net from
 
 -- no place yet
-pub certified_none : (desks : List SessionValue) (steps : ℕ) → AreAlike desks → AreCertified desks desks 0 steps steps
-certified_none desks steps alike =
+pub certified_none : (desks : List SessionValue) {places : ℕ} (steps : ℕ) → AreAlike desks
+    → places ≡ move_count (desk_zero desks).net → places ≤ 57600 → AreCertified desks desks places 0 steps steps
+certified_none desks steps alike all most =
     let zero = desk_zero desks in
     let same : zero.work ≡ zero.work + 0 = omega arith in
     record {
+      all = all;
+      most = most;
+      inside = omega arith;
       state = λ i. record { net = zero.net; before = zero.before; work = same i };
       small = omega arith;
       alike = alike;
@@ -135,58 +94,116 @@ certified_none desks steps alike =
       made = λ one. omega arith;
     }
 
--- and then those of a batch
-pub certified_more : {desks now after : List SessionValue} {from steps steps_now : ℕ}
-    (so : AreCertified desks now from steps steps_now) (count steps_new : ℕ)
-    → desk_zero after ≡ credited (places_work (desk_zero now).net from count) (desk_zero now)
-    → places_work (desk_zero now).net from count ≤ 8000 * count → AreAlike after → length after ≡ length now
-    → (length now ≡ 1
-    → steps_new + cert_work (desk_zero now).net from ≡ steps_now + cert_work (desk_zero now).net (from + count))
-    → AreCertified desks after (from + count) steps steps_new
-certified_more {desks} {now} {from = from} so count steps_new state few alike len made =
-    let net = (desk_zero desks).net in
-    let net_is = ap (λ (t : SessionValue). t.net) so.state in
-    let before_is = ap (λ (t : SessionValue). t.before) so.state in
-    let had = ap (λ (t : SessionValue). t.work) so.state in
-    let same : places_work (desk_zero now).net from count ≡ places_work net from count =
-    ap (λ (n : Network). places_work n from count) net_is in
-    let more = work_more net from count in
-    let work : (desk_zero now).work + places_work (desk_zero now).net from count
-    ≡ (desk_zero desks).work + cert_work net (from + count) = omega (arith, had, same, more) in
-    record {
-      state = state ∙ (λ i. record { net = net_is i; before = before_is i; work = work i });
-      small = omega (arith, so.small, few, same, more);
-      alike = alike;
-      len = len ∙ so.len;
-      made = λ one.
-          let first = so.made one in
-          let then = made (so.len ∙ one) in
-          let here = ap (λ (n : Network). cert_work n from) net_is in
-          let there = ap (λ (n : Network). cert_work n (from + count)) net_is in
-          omega (arith, first, then, here, there);
-    }
+module _ {desks now : List SessionValue} {places from begun spent : ℕ}
+    (so : AreCertified desks now places from begun spent) where
+  -- the network is that of the start
+  same_net : (desk_zero now).net ≡ (desk_zero desks).net
+  same_net = ap (λ (s : SessionValue). s.net) so.state
 
--- once all places are certified, desk 0 is the session after CERT
-pub certified_state : {T E : Type 0} (r : Result T E) {desks after : List SessionValue} {from steps steps_new : ℕ}
-    → AreCertified desks after from steps steps_new → from ≡ move_count (desk_zero desks).net
-    → OnOk r (desk_zero after ≡ after_answer a.Cert (desk_zero desks))
-certified_state (Ok v) {desks} so all =
-    so.state ∙ ap (λ (n : ℕ). credited (cert_work (desk_zero desks).net n) (desk_zero desks)) all
-certified_state (Err e) so all = tt
+  -- and then those of a batch
+  pub certified_more : {after : List SessionValue} (count steps_new : ℕ) → from + count ≤ places
+      → desk_zero after ≡ credited (places_work (desk_zero now).net from count) (desk_zero now)
+      → places_work (desk_zero now).net from count ≤ 8000 * count → AreAlike after → length after ≡ length now
+      → (length now ≡ 1
+      → steps_new + cert_work (desk_zero now).net from ≡ spent + cert_work (desk_zero now).net (from + count))
+      → AreCertified desks after places (from + count) begun steps_new
+  certified_more count steps_new inside state few alike len made =
+      let net = (desk_zero desks).net in
+      let before_is = ap (λ (t : SessionValue). t.before) so.state in
+      let had = ap (λ (t : SessionValue). t.work) so.state in
+      let same : places_work (desk_zero now).net from count ≡ places_work net from count =
+      ap (λ (n : Network). places_work n from count) same_net in
+      let more = work_more net from count in
+      let work : (desk_zero now).work + places_work (desk_zero now).net from count
+      ≡ (desk_zero desks).work + cert_work net (from + count) = omega (arith, had, same, more) in
+      record {
+        all = so.all;
+        most = so.most;
+        inside = inside;
+        state = state ∙ (λ i. record { net = same_net i; before = before_is i; work = work i });
+        small = omega (arith, so.small, few, same, more);
+        alike = alike;
+        len = len ∙ so.len;
+        made = λ one.
+            let first = so.made one in
+            let then = made (so.len ∙ one) in
+            let here = ap (λ (n : Network). cert_work n from) same_net in
+            let there = ap (λ (n : Network). cert_work n (from + count)) same_net in
+            omega (arith, first, then, here, there);
+      }
 
--- the desks and the steps, also where the text broke off
-pub certified_leaves : {desks after : List SessionValue} {from steps steps_new : ℕ}
-    → AreCertified desks after from steps steps_new → AreIdle desks → from ≤ move_count (desk_zero desks).net
-    → move_count (desk_zero desks).net ≤ 57600
-    → LeavesReady 8000072000 (after_answer a.Cert (desk_zero desks)) desks after steps steps_new
-certified_leaves {desks} {after} {from} so idle inside most =
-    let work = ap (λ (t : SessionValue). t.work) so.state in
-    let all = cert_more (desk_zero desks).net from (move_count (desk_zero desks).net) inside in
-    record {
-      ready = ready_closed desks after idle.ready so.alike so.len
-          (ap (λ (t : SessionValue). t.before) so.state ∙ idle.closed);
-      len = so.len;
-      few = omega (arith, work, inside, most, so.small);
-      work = omega (arith, work, all);
-      made = λ one. let counted = so.made one in omega (arith, work, counted);
-    }
+  -- the lines of the places of a batch
+  same_lines : (count : ℕ) → places_text (desk_zero now).net from count ≡ places_text (desk_zero desks).net from count
+  same_lines count = ap (λ (n : Network). places_text n from count) same_net
+
+  -- they are written, and a remark after them changes nothing that is written
+  pub batch_printed : {T E : Type 0} {v : T} (count : ℕ) {a b c d : Option (List ℕ)} {f g h k : ℕ}
+      → Printed a b f g (places_text (desk_zero desks).net 0 from)
+      → Prints {T = T} {E = E} b c g h (Ok v) (places_text (desk_zero now).net from count) → d ≡ c → k ≡ h
+      → Printed a d f k (places_text (desk_zero desks).net 0 (from + count))
+  batch_printed count {a} {b} {c} before batch written faults =
+      let net = (desk_zero desks).net in
+      let text : places_text net 0 from ++ places_text (desk_zero now).net from count ≡ places_text net 0 (from + count) =
+      ap (λ (l : List ℕ). places_text net 0 from ++ l) (same_lines count)
+      ∙ sym (places_both net 0 from count (from + count) from refl (omega arith)) in
+      let adds = adds_same a c _ _ text (adds_both a b c _ _ before.adds batch.ok) in
+      record {
+        adds = subst (λ (held : Option (List ℕ)). Adds a held (places_text net 0 (from + count))) (sym written) adds;
+        later = omega (arith, before.later, batch.cause.later, faults);
+      }
+
+  -- or they broke off
+  pub batch_broken : {T U E : Type 0} {e : E} (r : Result T E) (v : T) (count : ℕ) {a b c : Option (List ℕ)} {f g h : ℕ}
+      → IsErr r → from + count ≤ places → Printed a b f g (places_text (desk_zero desks).net 0 from)
+      → Prints {T = U} {E = E} b c g h (Err e) (places_text (desk_zero now).net from count)
+      → Prints {T = T} {E = E} a c f h r (cert_text (desk_zero desks).net)
+  batch_broken {T} {U} {E} {e} r v count {a} {b} {c} {g = g} {h = h} failed inside before batch =
+      let net = (desk_zero desks).net in
+      let broken : Prints {T = T} {E = E} b c g h (Err e) (places_text (desk_zero now).net from count) =
+      record { ok = tt; err = batch.err; cause = record { later = batch.cause.later; failed = batch.cause.failed } } in
+      let left = move_count net - (from + count) in
+      let done = places_text net 0 from in
+      let lines = places_text net from count in
+      let more = places_text net (from + count) left in
+      let last = last_text (move_count net) (index net) in
+      let text : places_text net 0 (move_count net) ≡ (done ++ lines) ++ more =
+      places_both net 0 (from + count) left (move_count net) (from + count) (omega (arith, so.all)) (omega arith)
+      ∙ ap (λ (l : List ℕ). l ++ more) (places_both net 0 from count (from + count) from refl (omega arith)) in
+      prints_same a c r _ _
+      (prints_front r (done ++ lines) (more ++ last) failed
+      (prints_both (Err e) done lines (whole v done before) (prints_same b c (Err e) _ _ broken (same_lines count))))
+      (sym (text_by_place net ∙ ap (λ (l : List ℕ). l ++ last) text ∙ append_assoc (done ++ lines) more last))
+
+  -- all lines are written, and then the last
+  pub lines_ended : {T E : Type 0} (r : Result T E) (v : T) {zero : SessionValue} {a b c : Option (List ℕ)} {f g h : ℕ}
+      → zero ≡ desk_zero now → from ≡ places → Printed a b f g (places_text (desk_zero desks).net 0 from)
+      → Prints {T = T} {E = E} b c g h r (last_text places (index zero.net))
+      → Prints {T = T} {E = E} a c f h r (cert_text (desk_zero desks).net)
+  lines_ended r v {zero} {a} {b} {c} is ended before last =
+      let net = (desk_zero desks).net in
+      let now_is : zero.net ≡ net = ap (λ (s : SessionValue). s.net) is ∙ same_net in
+      prints_same a c r _ _
+      (prints_both r (places_text net 0 from) _ (whole v (places_text net 0 from) before) last)
+      ((λ i. places_text net 0 ((ended ∙ so.all) i) ++ last_text (so.all i) (index (now_is i))) ∙ sym (text_by_place net))
+
+  -- desk 0 is the session after CERT then
+  pub certified_state : {T E : Type 0} (r : Result T E) → from ≡ places
+      → OnOk r (desk_zero now ≡ after_answer a.Cert (desk_zero desks))
+  certified_state (Ok v) ended =
+      so.state ∙ ap (λ (n : ℕ). credited (cert_work (desk_zero desks).net n) (desk_zero desks)) (ended ∙ so.all)
+  certified_state (Err e) ended = tt
+
+  -- the desks and the steps, also where the text broke off
+  pub certified_leaves : AreIdle desks
+      → LeavesReady 8000072000 (after_answer a.Cert (desk_zero desks)) desks now begun spent
+  certified_leaves idle =
+      let work = ap (λ (t : SessionValue). t.work) so.state in
+      let all = cert_more (desk_zero desks).net from (move_count (desk_zero desks).net) (omega (arith, so.inside, so.all)) in
+      record {
+        ready = ready_closed desks now idle.ready so.alike so.len
+            (ap (λ (t : SessionValue). t.before) so.state ∙ idle.closed);
+        len = so.len;
+        few = omega (arith, work, so.inside, so.most, so.small);
+        work = omega (arith, work, all);
+        made = λ one. let counted = so.made one in omega (arith, work, counted);
+      }

@@ -13,7 +13,7 @@ use Rattle.transyt_line_answers.specs.declared.answer.Answer.TheVariants as a
 use Rattle.transyt_line_answers.specs.Commands.{after_answer, budget_of, steps_text}
 use Rattle.transyt_reporter.specs.Conditions.{AreReady, LeavesReady}
 use Rattle.transyt_reporter.proofs.ClimbTexts.{ClimbWritten, writes_nothing, climb_work, climb_few, step_written}
-use Rattle.transyt_reporter.proofs.LeavesLaws.{climb_leaves}
+use Rattle.transyt_reporter.proofs.ReadyLaws.{ready_closed}
 
 -- a climb that began on these desks and has come to those: its lines, its budget, its desks, its steps with one worker
 pub record IsOnWay (desks now : List SessionValue) (c : Counters) (w v : Option (List ℕ)) (f g begun spent : ℕ) : Type 0
@@ -63,6 +63,10 @@ module _ {desks now news : List SessionValue} {c : Counters} {w v : Option (List
 
   -- the desks and the steps that it leaves where it is the last, or its line broke off
   pub way_leaves : AreReady desks → LeavesReady 8000072000 (after_answer a.Climb (desk_zero desks)) desks news begun after
-  way_leaves ready =
-      climb_leaves desks news _ _ ready so.few alike made.closed (workers ∙ so.len) (climb_few so.written made)
-      (climb_work so.written made) rose
+  way_leaves ready = record {
+    ready = ready_closed desks news ready alike (workers ∙ so.len) made.closed;
+    len = workers ∙ so.len;
+    few = omega (arith, so.few, climb_few so.written made);
+    work = climb_work so.written made;
+    made = rose;
+  }

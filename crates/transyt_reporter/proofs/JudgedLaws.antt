@@ -1,5 +1,6 @@
 -- A command that was judged at desk 0, which was lent out for it: what is said of it and what it leaves.
-use Rattle.std.proofs.Common.{◌≡◌, ℕ, ◌+◌, ◌≤◌, List, Option, Result, sym, ◌∙◌, ap, subst, set}
+use Rattle.std.proofs.Common.{◌≡◌, ℕ, ◌+◌, ◌≤◌, List, Option, Result, sym, ◌∙◌, ap, subst, set, arith}
+use Rattle.std.proofs.lemmas.List.{length-set}
 use Rattle.transyt_session.specs.Session.{SessionValue}
 use Rattle.transyt_desks.specs.Desks.{desk_zero}
 use Rattle.transyt_io.specs.Prints.{Prints}
@@ -12,7 +13,6 @@ use Rattle.transyt_line_answers.proofs.JudgedTexts.{line_said}
 use Rattle.transyt_outcome.specs.declared.ending.Ending.{Ending}
 use Rattle.transyt_reporter.specs.Conditions.{AreReady, LeavesReady}
 use Rattle.transyt_reporter.proofs.ReadyLaws.{ready_judged}
-use Rattle.transyt_reporter.proofs.LeavesLaws.{command_leaves}
 use Rattle.transyt_desks.proofs.DeskLaws.{zero_set}
 
 -- desks whose desk 0 was lent out and judged a line to this session and this answer
@@ -62,5 +62,15 @@ module _ {desks : List SessionValue} {lent s : SessionValue} {answer : Answer} (
       → LeavesReady 8000072000 (after_answer answer (desk_zero (set desks 0 s))) (set desks 0 s) after judged steps_new
       → LeavesReady 8589934592 (session_after (desk_zero desks) line) desks after steps steps_new
   leaves_said after steps judged steps_new few work leaves =
-      command_leaves desks after lent s _ _ steps judged steps_new ready value few work
-      (λ i. after_answer (answer_is i) (zero_is i)) leaves
+      let at = ap (λ (t : SessionValue). t.work) (zero_set desks s ready.some) in
+      let same = ap (λ (t : SessionValue). t.work) value in
+      let end : (after_answer answer (desk_zero (set desks 0 s))).work ≡ (session_after (desk_zero desks) line).work =
+      λ i. (after_answer (answer_is i) (zero_is i)).work in
+      let count = length-set desks 0 s in
+      record {
+        ready = leaves.ready;
+        len = leaves.len ∙ count;
+        few = omega (arith, at, same, few, leaves.few);
+        work = omega (arith, end, leaves.work);
+        made = λ one. let go = leaves.made (count ∙ one) in omega (arith, at, same, work, go);
+      }

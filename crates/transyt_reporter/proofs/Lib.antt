@@ -7,8 +7,8 @@ pub mod ClimbTexts
 pub mod ClimbWay
 pub mod CountLaws
 pub mod JudgedLaws
-pub mod LeavesLaws
 pub mod MoveLaws
 pub mod OpenedLaws
 pub mod ReadyLaws
+pub mod ToldLaws
 pub mod WorkedBrief

@@ -28,12 +28,6 @@ pub ready_judged : (desks : List SessionValue) (line : List ℕ) → AreReady de
 ready_judged desks line ready =
     ready_set desks (line_judged (desk_zero desks) line) ready (keeps_said (command_in line) (desk_zero desks) ready.before)
 
--- desks whose desk 0 has another count of work
-pub ready_same : (desks : List SessionValue) (s : SessionValue) → AreReady desks → s.net ≡ (desk_zero desks).net
-    → s.before ≡ None → AreReady (set desks 0 s)
-ready_same desks s ready net closed =
-    ready_set desks s ready (record { net = ap shape (sym net); before = MatchOption-from_none s.before _ closed })
-
 -- desks of one shape, as many as before, with no trial at desk 0
 pub ready_closed : (desks after : List SessionValue) → AreReady desks → AreAlike after → length after ≡ length desks
     → (desk_zero after).before ≡ None → AreReady after

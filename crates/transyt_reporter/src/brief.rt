@@ -1,5 +1,5 @@
 //! BRIEF: one climb on a network, told in one line.
-ghost use Rattle.std.specs.Prelude.{◌≡◌, ◌+◌, ◌*◌, ◌≤◌, ◌∷◌, [], length, IsSome, IsErrOf, OnOk, OnErr};
+ghost use Rattle.std.specs.Prelude.{◌≡◌, ◌+◌, ◌≤◌, ◌∷◌, [], length, IsSome, IsErrOf, OnOk, OnErr};
 ghost use Rattle.transyt_io.specs.Streams.{Adds, AddsFront, Rose};
 ghost use Rattle.transyt_sweep.specs.Sweeps.{index};
 ghost use Rattle.transyt_desks.specs.Desks.{desk_zero};
@@ -11,7 +11,6 @@ ghost use Rattle.transyt_line_answers.specs.Commands.{climb_of};
 ghost use Rattle.transyt_reporter.specs.Conditions.{AreIdle};
 
 use crate::climbing::start_climber;
-use crate::opening::desks_of;
 use crate::workers::{AnswerWriter, Workers};
 use std::alloc::Global;
 use std::sync::ledger::Ledger;
@@ -31,12 +30,15 @@ struct Before {
     index: u128,
 }
 
-/// A climb that ended: how many steps it took, how many places it looked at, and whether no move lowers the index.
+/// A climb on a network: the network before it, how many steps it took, how many places it looked at, whether no move
+/// lowers the index at its end, and that index.
 #[derive(Clone, Copy, Drop)]
-struct Climbed {
+struct Brief {
+    before: Before,
     took: u32,
     looked: u32,
     local: bool,
+    to: u128,
 }
 
 /// The network now, as the line tells it.
@@ -53,69 +55,68 @@ fn before_climb(session: &Session) -> Before
     }
 }
 
-/// Writes the line of a climb, which led to this index.
-fn print_brief<K: Sink>(
-    before: Before,
-    climbed: Climbed,
-    to: u128,
-    line: &mut LineBuffer,
-    sink: &mut K,
-) -> Result<(), Failed>
-    ensures { PrintsOn K.written K.faults sink.old sink.new result
-        (form_line (brief_form climbed.local)
-        (before.nodes ∷ before.links ∷ before.index ∷ climbed.took
-        ∷ climbed.looked ∷ to ∷ [])) }
-{
-    let numbers = [
-        before.nodes as u128,
-        before.links as u128,
-        before.index,
-        u128::from(climbed.took),
-        u128::from(climbed.looked),
-        to,
-    ];
-    if climbed.local {
-        print_form(
-            b"BRIEF # # FROM # TOOK # LOCAL # TO #",
-            &numbers,
-            line,
-            sink,
-        )
-    } else {
-        print_form(
-            b"BRIEF # # FROM # TOOK # BUDGET # TO #",
-            &numbers,
-            line,
-            sink,
-        )
+impl Brief {
+    /// Writes the line of the climb.
+    fn write<K: Sink>(self, line: &mut LineBuffer, sink: &mut K) -> Result<(), Failed>
+        ensures { PrintsOn K.written K.faults sink.old sink.new result
+            (form_line (brief_form self.local)
+            (self.before.nodes ∷ self.before.links ∷ self.before.index ∷ self.took
+            ∷ self.looked ∷ self.to ∷ [])) }
+    {
+        let numbers = [
+            self.before.nodes as u128,
+            self.before.links as u128,
+            self.before.index,
+            u128::from(self.took),
+            u128::from(self.looked),
+            self.to,
+        ];
+        if self.local {
+            print_form(
+                b"BRIEF # # FROM # TOOK # LOCAL # TO #",
+                &numbers,
+                line,
+                sink,
+            )
+        } else {
+            print_form(
+                b"BRIEF # # FROM # TOOK # BUDGET # TO #",
+                &numbers,
+                line,
+                sink,
+            )
+        }
     }
 }
 
-/// Climbs by the network's plan, and writes the line.
-fn tell_climb<R: Threads + Sync, G: Gate, K: Sink, L: Ledger>(
-    writer: &mut AnswerWriter<'_, R, G>,
-    desks: &mut Desks,
-    sink: &mut K,
-    steps: &mut Steps<L>,
-) -> Result<(), Failed>
-    requires idle { AreIdle desks.old }
-    requires plan { IsSome (desk_zero desks.old).net.plan }
-    ensures prints { PrintsOn K.written K.faults sink.old sink.new result
-        (brief_text (desk_zero desks.old).net) }
-    ensures steps { length desks.old ≡ 1
-        → steps.new ≡ steps.old + work_of (climb_of (desk_zero desks.old).net).looks }
-{
-    let before = before_climb(desks.session());
-    let mut climber = start_climber(desks.session().net());
-    let workers = &writer.workers;
-    let ended = climb_by_rounds(workers.rt, &mut climber, desks, workers.gate, steps);
-    let climbed = Climbed {
-        took: ended.took,
-        looked: climber.looked(),
-        local: ended.local,
-    };
-    let to = desks.session().index();
-    print_brief(before, climbed, to, &mut writer.line, sink)
+impl<R: Threads + Sync, G: Gate> AnswerWriter<'_, R, G> {
+    /// Climbs by the network's plan, and writes the line.
+    fn tell_climb<K: Sink, L: Ledger>(
+        &mut self,
+        desks: &mut Desks,
+        sink: &mut K,
+        steps: &mut Steps<L>,
+    ) -> Result<(), Failed>
+        requires idle { AreIdle desks.old }
+        requires plan { IsSome (desk_zero desks.old).net.plan }
+        ensures prints { PrintsOn K.written K.faults sink.old sink.new result
+            (brief_text (desk_zero desks.old).net) }
+        ensures steps { length desks.old ≡ 1
+            → steps.new ≡ steps.old + work_of (climb_of (desk_zero desks.old).net).looks }
+    {
+        let before = before_climb(desks.session());
+        let mut climber = start_climber(desks.session().net());
+        let workers = &self.workers;
+        let ended = climb_by_rounds(workers.rt, &mut climber, desks, workers.gate, steps);
+        let brief = Brief {
+            before,
+            took: ended.took,
+            looked: climber.looked(),
+            local: ended.local,
+            to: desks.session().index(),
+        };
+        brief.write(&mut self.line, sink)
+    }
 }
 
 /// Climbs once on a network by its plan, with so many workers, and writes the line of it.
@@ -140,14 +141,14 @@ pub fn write_brief<R: Threads + Sync, G: Gate, K: Sink, L: Ledger>(
     ensures some_steps { workers.entry.count ≡ 1
         → OnErr result (steps.new ≤ steps.old + brief_steps net) }
 {
-    let Ok(mut desks) = desks_of(alloc, net, workers.count, steps) else {
+    let Ok(mut desks) = workers.desks_of(alloc, net, steps) else {
         return Err(Stop::Memory);
     };
     let Ok(mut writer) = AnswerWriter::open(alloc, workers) else {
         drop(desks);
         return Err(Stop::Memory);
     };
-    let told = tell_climb(&mut writer, &mut desks, sink, steps);
+    let told = writer.tell_climb(&mut desks, sink, steps);
     drop(writer);
     drop(desks);
     match told {

@@ -42,122 +42,138 @@ fn work_of(tried: Tried) -> u64
     }
 }
 
-/// The work of tries of consecutive places.
-fn work_of_all(session: &Session, from: u32, tries: &[Tried]) -> u64
-    requires tried { AreTriesOf session.now.net from (length tries.now) tries.now }
-    requires each { length tries.now ≤ 256 }
-    ensures value { result ≡ places_work session.now.net from (length tries.now) }
-    ensures few { result ≤ 8000 * length tries.now }
-{
-    let mut work = 0;
-    for number in 0..tries.len() {
-        work += work_of(tries[number]);
-    }
-    work
-}
-
-/// How many tries have a lower index than this one.
-fn count_lower(index: u128, tries: &[Tried]) -> u32 {
-    let mut lower: u32 = 0;
-    for tried in tries {
-        if let Tried::Index { index: other, .. } = *tried
-            && other < index
-        {
-            lower = lower.saturating_add(1);
-        }
-    }
-    lower
-}
-
-/// Writes the lines of consecutive places whose moves were tried.
-fn write_places<K: Sink>(
-    session: &Session,
+/// Consecutive places of a session's network, from one on, and a try of the move of each.
+#[derive(Clone, Copy)]
+struct TriedPlaces<'a> {
+    session: &'a Session,
     from: u32,
-    tries: &[Tried],
-    line: &mut LineBuffer,
-    sink: &mut K,
-) -> Result<(), Failed>
-    requires places { from + length tries.now ≤ move_count session.now.net }
-    requires few { from + length tries.now ≤ 57600 }
-    requires tried { AreTriesOf session.now.net from (length tries.now) tries.now }
-    ensures { PrintsOn K.written K.faults sink.old sink.new result
-        (places_text session.now.net from (length tries.now)) }
-{
-    for number in 0..tries.len() {
-        write_cert_place(session, from + number as u32, tries[number], line, sink)?;
+    tries: &'a [Tried],
+    ghost places: { from + length tries.now ≤ move_count session.now.net },
+    ghost few: { from + length tries.now ≤ 57600 },
+    ghost each: { length tries.now ≤ 256 },
+    ghost tried: { AreTriesOf session.now.net from (length tries.now) tries.now },
+}
+
+impl TriedPlaces<'_> {
+    /// The work of the tries.
+    fn work(&self) -> u64
+        ensures value { result
+            ≡ places_work self.now.session.now.net self.now.from (length self.now.tries.now) }
+        ensures few { result ≤ 8000 * length self.now.tries.now }
+    {
+        let mut work = 0;
+        for number in 0..self.tries.len() {
+            work += work_of(self.tries[number]);
+        }
+        work
     }
-    Ok(())
+
+    /// How many tries have a lower index than the session.
+    fn count_lower(&self) -> u32 {
+        let index = self.session.index();
+        let mut lower: u32 = 0;
+        for tried in self.tries {
+            if let Tried::Index { index: other, .. } = *tried
+                && other < index
+            {
+                lower = lower.saturating_add(1);
+            }
+        }
+        lower
+    }
+
+    /// Writes the lines of the places.
+    fn write<K: Sink>(&self, line: &mut LineBuffer, sink: &mut K) -> Result<(), Failed>
+        ensures { PrintsOn K.written K.faults sink.old sink.new result
+            (places_text self.now.session.now.net self.now.from (length self.now.tries.now)) }
+    {
+        for number in 0..self.tries.len() {
+            let place = self.from + number as u32;
+            write_cert_place(self.session, place, self.tries[number], line, sink)?;
+        }
+        Ok(())
+    }
 }
 
-/// Tries the places of a batch at once, adds their work, and then writes their lines. Returns how many of them have a
-/// lower index.
-fn certify_batch<R: Threads + Sync, G: Gate, K: Sink, L: Ledger>(
-    writer: &mut AnswerWriter<'_, R, G>,
-    desks: &mut Desks,
-    batch: Batch,
-    sink: &mut K,
-    steps: &mut Steps<L>,
-) -> Result<u32, Failed>
-    requires alike { AreAlike desks.old }
-    requires closed { (desk_zero desks.old).before ≡ None }
-    requires places { batch.from + batch.count ≤ move_count (desk_zero desks.old).net }
-    requires each { batch.count ≤ 32 * length desks.old }
-    requires room { (desk_zero desks.old).work ≤ 2 ^ 61 }
-    ensures prints { PrintsOn K.written K.faults sink.old sink.new result
-        (places_text (desk_zero desks.old).net batch.from batch.count) }
-    ensures state { desk_zero desks.new
-        ≡ credited (places_work (desk_zero desks.old).net batch.from batch.count)
-        (desk_zero desks.old) }
-    ensures few { places_work (desk_zero desks.old).net batch.from batch.count
-        ≤ 8000 * batch.count }
-    ensures alike { AreAlike desks.new }
-    ensures workers { length desks.new ≡ length desks.old }
-    ensures steps { length desks.old ≡ 1 → steps.new + cert_work (desk_zero desks.old).net batch.from
-        ≡ steps.old + cert_work (desk_zero desks.old).net (batch.from + batch.count) }
-    ensures writer { writer.new.workers.count ≡ writer.old.workers.count }
-{
-    let mut room = [Tried::Barred; 256];
-    let tries = &mut room[..batch.count as usize];
-    let workers = &writer.workers;
-    desks.try_moves(workers.rt, workers.gate, batch.from, tries, steps);
-    let work = work_of_all(desks.session(), batch.from, tries);
-    desks.session_mut().credit(work);
-    write_places(desks.session(), batch.from, tries, &mut writer.line, sink)?;
-    Ok(count_lower(desks.session().index(), tries))
-}
-
-/// Writes the certificate of the network now, a batch of places after another, and adds its work. On Failed some first
-/// bytes of it were written. It takes no memory.
-pub(crate) fn certify<R: Threads + Sync, G: Gate, K: Sink, L: Ledger>(
-    writer: &mut AnswerWriter<'_, R, G>,
-    desks: &mut Desks,
-    sink: &mut K,
-    steps: &mut Steps<L>,
-) -> Result<(), Failed>
-    requires idle { AreIdle desks.old }
-    requires len { length desks.old ≡ writer.old.workers.count }
-    ensures prints { PrintsOn K.written K.faults sink.old sink.new result
-        (cert_text (desk_zero desks.old).net) }
-    ensures state { OnOk result
-        (desk_zero desks.new ≡ after_answer Answer.Cert (desk_zero desks.old)) }
-    ensures workers { writer.new.workers.count ≡ writer.old.workers.count }
-    ensures leaves { LeavesReady 8000072000 (after_answer Answer.Cert (desk_zero desks.old))
-        desks.old desks.new steps.old steps.new }
-{
-    let places = move_count(desks.session().net());
-    let mut from = 0;
-    let mut lower: u32 = 0;
-    while from < places {
-        let count = (places - from).min(32 * writer.workers.count);
-        let more = certify_batch(writer, desks, Batch { from, count }, sink, steps)?;
-        from += count;
-        lower = lower.saturating_add(more);
-        let certified = Certified {
-            places,
-            done: from,
-            lower,
+impl<R: Threads + Sync, G: Gate> AnswerWriter<'_, R, G> {
+    /// Tries the places of a batch at once, writes their lines, and adds their work. Returns how many of them have a lower
+    /// index.
+    fn certify_batch<K: Sink, L: Ledger>(
+        &mut self,
+        desks: &mut Desks,
+        batch: Batch,
+        sink: &mut K,
+        steps: &mut Steps<L>,
+    ) -> Result<u32, Failed>
+        requires alike { AreAlike desks.old }
+        requires closed { (desk_zero desks.old).before ≡ None }
+        requires places { batch.from + batch.count ≤ move_count (desk_zero desks.old).net }
+        requires each { batch.count ≤ 32 * length desks.old }
+        requires room { (desk_zero desks.old).work ≤ 2 ^ 61 }
+        ensures prints { PrintsOn K.written K.faults sink.old sink.new result
+            (places_text (desk_zero desks.old).net batch.from batch.count) }
+        ensures state { desk_zero desks.new
+            ≡ credited (places_work (desk_zero desks.old).net batch.from batch.count)
+            (desk_zero desks.old) }
+        ensures few { places_work (desk_zero desks.old).net batch.from batch.count
+            ≤ 8000 * batch.count }
+        ensures alike { AreAlike desks.new }
+        ensures workers { length desks.new ≡ length desks.old }
+        ensures steps { length desks.old ≡ 1
+            → steps.new + cert_work (desk_zero desks.old).net batch.from
+            ≡ steps.old + cert_work (desk_zero desks.old).net (batch.from + batch.count) }
+        ensures writer { self.new.workers.count ≡ self.old.workers.count }
+    {
+        let mut room = [Tried::Barred; 256];
+        let tries = &mut room[..batch.count as usize];
+        let workers = &self.workers;
+        desks.try_moves(workers.rt, workers.gate, batch.from, tries, steps);
+        let places = TriedPlaces {
+            session: desks.session(),
+            from: batch.from,
+            tries,
         };
-        remark_certified(certified, count, sink);
+        let work = places.work();
+        let lower = places.count_lower();
+        let written = places.write(&mut self.line, sink);
+        desks.session_mut().credit(work);
+        written?;
+        Ok(lower)
     }
-    write_cert_end(places, desks.session(), &mut writer.line, sink)
+
+    /// Writes the certificate of the network now, a batch of places after another, and adds its work. On Failed some first
+    /// bytes of it were written. It takes no memory.
+    pub(crate) fn certify<K: Sink, L: Ledger>(
+        &mut self,
+        desks: &mut Desks,
+        sink: &mut K,
+        steps: &mut Steps<L>,
+    ) -> Result<(), Failed>
+        requires idle { AreIdle desks.old }
+        requires len { length desks.old ≡ self.old.workers.count }
+        ensures prints { PrintsOn K.written K.faults sink.old sink.new result
+            (cert_text (desk_zero desks.old).net) }
+        ensures state { OnOk result
+            (desk_zero desks.new ≡ after_answer Answer.Cert (desk_zero desks.old)) }
+        ensures workers { self.new.workers.count ≡ self.old.workers.count }
+        ensures leaves { LeavesReady 8000072000 (after_answer Answer.Cert (desk_zero desks.old))
+            desks.old desks.new steps.old steps.new }
+    {
+        let places = move_count(desks.session().net());
+        let mut from = 0;
+        let mut lower: u32 = 0;
+        while from < places {
+            let count = (places - from).min(32 * self.workers.count);
+            let more = self.certify_batch(desks, Batch { from, count }, sink, steps)?;
+            from += count;
+            lower = lower.saturating_add(more);
+            let certified = Certified {
+                places,
+                done: from,
+                lower,
+            };
+            remark_certified(certified, count, sink);
+        }
+        write_cert_end(places, desks.session(), &mut self.line, sink)
+    }
 }

@@ -33,19 +33,24 @@ fn write_step<K: Sink>(turn: Turn, line: &mut LineBuffer, sink: &mut K) -> Resul
     write_line(line, sink)
 }
 
-/// Writes the last line of a climb.
-fn write_end<K: Sink>(
+/// How a climb ended: whether no move lowers the index, how many places it looked at, and the index.
+#[derive(Clone, Copy, Drop)]
+struct ClimbEnd {
     local: bool,
     looked: u32,
     index: u128,
-    line: &mut LineBuffer,
-    sink: &mut K,
-) -> Result<(), Failed>
-    ensures { PrintsOn K.written K.faults sink.old sink.new result (end_text local looked index) }
-{
-    remark_end(local, looked, sink);
-    end_line(local, looked, index, line);
-    write_line(line, sink)
+}
+
+impl ClimbEnd {
+    /// Writes the last line of the climb.
+    fn write<K: Sink>(self, line: &mut LineBuffer, sink: &mut K) -> Result<(), Failed>
+        ensures { PrintsOn K.written K.faults sink.old sink.new result
+            (end_text self.local self.looked self.index) }
+    {
+        remark_end(self.local, self.looked, sink);
+        end_line(self.local, self.looked, self.index, line);
+        write_line(line, sink)
+    }
 }
 
 /// A climber at the start of a climb by the network's plan.
@@ -61,37 +66,37 @@ pub(crate) fn start_climber(net: &Net) -> Climber
     climber
 }
 
-/// Climbs by the network's plan, by rounds of the desks.
-pub(crate) fn climb_on<R: Threads + Sync, G: Gate, K: Sink, L: Ledger>(
-    writer: &mut AnswerWriter<'_, R, G>,
-    desks: &mut Desks,
-    sink: &mut K,
-    steps: &mut Steps<L>,
-) -> Result<(), Failed>
-    requires idle { AreIdle desks.old }
-    requires plan { IsSome (desk_zero desks.old).net.plan }
-    ensures prints { PrintsOn K.written K.faults sink.old sink.new result
-        (climb_text (climb_of (desk_zero desks.old).net)) }
-    ensures state { OnOk result
-        (desk_zero desks.new ≡ after_answer Answer.Climb (desk_zero desks.old)) }
-    ensures workers { writer.new.workers.count ≡ writer.old.workers.count }
-    ensures leaves { LeavesReady 8000072000 (after_answer Answer.Climb (desk_zero desks.old))
-        desks.old desks.new steps.old steps.new }
-{
-    let mut climber = start_climber(desks.session().net());
-    loop {
-        let workers = &writer.workers;
-        let round = desks.stretch_round(workers.rt, &mut climber, workers.gate, steps);
-        if round.last.is_end() {
-            let index = desks.session().index();
-            return write_end(
-                round.last.is_local(),
-                climber.looked(),
-                index,
-                &mut writer.line,
-                sink,
-            );
+impl<R: Threads + Sync, G: Gate> AnswerWriter<'_, R, G> {
+    /// Climbs by the network's plan, by rounds of the desks.
+    pub(crate) fn climb<K: Sink, L: Ledger>(
+        &mut self,
+        desks: &mut Desks,
+        sink: &mut K,
+        steps: &mut Steps<L>,
+    ) -> Result<(), Failed>
+        requires idle { AreIdle desks.old }
+        requires plan { IsSome (desk_zero desks.old).net.plan }
+        ensures prints { PrintsOn K.written K.faults sink.old sink.new result
+            (climb_text (climb_of (desk_zero desks.old).net)) }
+        ensures state { OnOk result
+            (desk_zero desks.new ≡ after_answer Answer.Climb (desk_zero desks.old)) }
+        ensures workers { self.new.workers.count ≡ self.old.workers.count }
+        ensures leaves { LeavesReady 8000072000 (after_answer Answer.Climb (desk_zero desks.old))
+            desks.old desks.new steps.old steps.new }
+    {
+        let mut climber = start_climber(desks.session().net());
+        loop {
+            let workers = &self.workers;
+            let round = desks.stretch_round(workers.rt, &mut climber, workers.gate, steps);
+            if round.last.is_end() {
+                let end = ClimbEnd {
+                    local: round.last.is_local(),
+                    looked: climber.looked(),
+                    index: desks.session().index(),
+                };
+                return end.write(&mut self.line, sink);
+            }
+            write_step(round.last, &mut self.line, sink)?;
         }
-        write_step(round.last, &mut writer.line, sink)?;
     }
 }

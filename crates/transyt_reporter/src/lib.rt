@@ -3,10 +3,10 @@
 //! The report is a definition of `transyt_line_answers`. `specs/Reporter` has what the reporter's lines have come to,
 //! `specs/Brief` one climb on a network in one line.
 //!
-//! `workers` has the `Workers` that try moves, and the `AnswerWriter` that writes the answers with them. `climbing`
-//! climbs by rounds of the desks and writes each step. `certifying` writes a certificate, one batch of places after
-//! another. `writing` writes an answer over desks. `reporter` joins deck and session, and `running` is the loop.
-//! `brief` is one climb on a network in one line.
+//! `workers` has the `Workers` that try moves, and the `AnswerWriter` that writes the answers with them; `opening` opens
+//! their desks. The writer's methods stand by what they write: in `climbing` a climb by rounds of the desks, each step
+//! before the next look, in `certifying` a certificate, one batch of places after another, in `writing` the answer to a
+//! command, in `brief` one climb on a network in one line. `reporter` joins deck and session, and `running` is the loop.
 #![tactic(auto)]
 
 mod brief;

@@ -1,5 +1,5 @@
 //! The run over the lines of a source: each is answered before the next is read.
-ghost use Rattle.std.specs.Prelude.{◌≡◌, ◌≤◌, [], nat_eq};
+ghost use Rattle.std.specs.Prelude.{◌≡◌, ◌≤◌, nat_eq};
 ghost use Rattle.transyt_io.specs.Streams.{Rose};
 ghost use Rattle.transyt_io.specs.Reading.{new_reading};
 ghost use Rattle.transyt_outcome.specs.Outcome.{Outcome};
@@ -10,7 +10,7 @@ ghost use Rattle.transyt_line_answers.specs.Report.{deck_answering, reporting_ru
 ghost use Rattle.transyt_reporter.specs.Reporter.{new_reporter};
 
 use crate::remarks::remark_refused;
-use crate::reporter::{Reporter, answer_line};
+use crate::reporter::Reporter;
 use crate::workers::Workers;
 use std::alloc::Global;
 use std::sync::ledger::Ledger;
@@ -20,36 +20,38 @@ use transyt_io::{Line, LineReader, Sink, Source};
 use transyt_outcome::{Status, ended, stopped, stopped_reading};
 use transyt_steps::Steps;
 
-/// Takes the lines of a new reader one at a time, and answers each before the next is taken.
-fn run<R: Threads + Sync, S: Source, K: Sink, G: Gate, L: Ledger>(
-    reporter: &mut Reporter<'_, R, G>,
-    reader: &mut LineReader,
-    source: &mut S,
-    sink: &mut K,
-    steps: &mut Steps<L>,
-) -> Status
-    requires new { reporter.old ≡ new_reporter reporter.old.workers }
-    requires fresh { reader.old ≡ new_reading }
-    ensures { RunOutcome deck_answering (nat_eq reporter.old.workers 1)
-        (ends_of S.left S.last S.faults K.written K.faults source.old sink.old)
-        (ends_of S.left S.last S.faults K.written K.faults source.new sink.new)
-        steps.old steps.new result }
-{
-    loop {
-        let found = match reader.next(source) {
-            Ok(found) => found,
-            Err(stop) => return stopped_reading(stop),
-        };
-        if let Line::End = found {
-            return match reporter.finish(sink) {
-                Ok(refused) => ended(refused),
-                Err(stop) => stopped(stop),
+impl<R: Threads + Sync, G: Gate> Reporter<'_, R, G> {
+    /// Takes the lines of a new reader one at a time, and answers each before the next is taken.
+    fn run<S: Source, K: Sink, L: Ledger>(
+        &mut self,
+        reader: &mut LineReader,
+        source: &mut S,
+        sink: &mut K,
+        steps: &mut Steps<L>,
+    ) -> Status
+        requires new { self.old ≡ new_reporter self.old.workers }
+        requires fresh { reader.old ≡ new_reading }
+        ensures { RunOutcome deck_answering (nat_eq self.old.workers 1)
+            (ends_of S.left S.last S.faults K.written K.faults source.old sink.old)
+            (ends_of S.left S.last S.faults K.written K.faults source.new sink.new)
+            steps.old steps.new result }
+    {
+        loop {
+            let found = match reader.next(source) {
+                Ok(found) => found,
+                Err(stop) => return stopped_reading(stop),
             };
-        }
-        match answer_line(reporter, reader.line(), sink, steps) {
-            Ok(None) => {}
-            Ok(Some(ending)) => return ending.status(),
-            Err(stop) => return stopped(stop),
+            if let Line::End = found {
+                return match self.finish(sink) {
+                    Ok(refused) => ended(refused),
+                    Err(stop) => stopped(stop),
+                };
+            }
+            match self.answer_line(reader.line(), sink, steps) {
+                Ok(None) => {}
+                Ok(Some(ending)) => return ending.status(),
+                Err(stop) => return stopped(stop),
+            }
         }
     }
 }
@@ -85,7 +87,7 @@ pub fn run_deck<R: Threads + Sync, S: Source, K: Sink, G: Gate, L: Ledger>(
         drop(reporter);
         return Status::NoMemory;
     };
-    let status = run(&mut reporter, &mut reader, source, sink, steps);
+    let status = reporter.run(&mut reader, source, sink, steps);
     remark_refused(reporter.refused(), sink);
     drop(reader);
     drop(reporter);

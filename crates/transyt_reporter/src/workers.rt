@@ -36,15 +36,13 @@ impl<'a, R, G> AnswerWriter<'a, R, G> {
     ) -> Result<AnswerWriter<'a, R, G>, AllocError>
         ensures { IfOk result (λ writer. writer.workers.count ≡ workers.entry.count) }
     {
-        match LineBuffer::open(alloc) {
-            Ok(line) => Ok(AnswerWriter {
-                workers,
-                line,
-                number: 0,
-                refused: 0,
-            }),
-            Err(error) => Err(error),
-        }
+        let line = LineBuffer::open(alloc)?;
+        Ok(AnswerWriter {
+            workers,
+            line,
+            number: 0,
+            refused: 0,
+        })
     }
 
     /// Counts an answer that is a refusal.

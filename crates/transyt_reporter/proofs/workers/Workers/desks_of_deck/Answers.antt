@@ -6,16 +6,16 @@ use Rattle.transyt_desks.specs.Desks.{desk_zero, opened_desks}
 use Rattle.transyt_line_answers.specs.Report.{InSession, run_of, deck_steps}
 use Rattle.transyt_reporter.specs.Reporter.{AreKept}
 use Rattle.transyt_reporter.proofs.OpenedLaws.{opened_is, opened_kept}
-use Rattle.transyt_reporter.proofs.reporter.open_desks.Goals as goal
+use Rattle.transyt_reporter.proofs.workers.Workers.desks_of_deck.Goals as goal
 
 pub returns : goal.returns
 returns g c =
     let net = c.in-Ok.net in
     let made = c.desks_of.ensures in
-    let F : List SessionValue → Type 0 = λ desks. desks ≡ opened_desks (opened net) c.args.workers in
+    let F : List SessionValue → Type 0 = λ desks. desks ≡ opened_desks (opened net) c.args.self.now.count in
     let G : List SessionValue → Type 0 = λ desks. run_of c.args.cards.deck ≡ InSession (desk_zero desks) in
-    let K : List SessionValue → Type 0 = λ desks. AreKept c.args.workers 0 desks in
-    let kept = opened_kept (opened net) c.args.workers c.requires.some refl refl in
+    let K : List SessionValue → Type 0 = λ desks. AreKept c.args.self.now.count 0 desks in
+    let kept = opened_kept (opened net) c.args.self.now.count c.args.self.now.some refl refl in
     let deck = (opened_is c.args.cards.deck net (sym (sym c.in-Ok.is ∙ c.finish.ensures))).1 in
     let steps = ap deck_steps deck in
     record {

@@ -7,7 +7,7 @@ use Rattle.transyt_session.specs.Session.{SessionValue}
 use Rattle.transyt_desks.specs.Desks.{desk_zero}
 use Rattle.transyt_io.proofs.PrintLaws.{prints_same}
 use Rattle.transyt_reporter.proofs.BriefLaws.{brief_told, whole_climb}
-use Rattle.transyt_reporter.proofs.brief.tell_climb.Goals as goal
+use Rattle.transyt_reporter.proofs.workers.AnswerWriter.tell_climb.Goals as goal
 
 -- the line
 pub returns-clause-prints : goal.returns-clause-prints
@@ -17,14 +17,14 @@ returns-clause-prints g c =
     let at = c.session.ensures in
     let whole = whole_climb (desk_zero c.args.desks.now).net c.net.result.now c.start_climber-climber.result
     c.start_climber-climber.ensures.start (c.net.ensures ∙ ap (λ (s : SessionValue). s.net) c.session-2.ensures) in
-    prints_same _ _ c.print_brief.result _ _ c.print_brief.ensures
+    prints_same _ _ c.write.result _ _ c.write.ensures
     (brief_told (desk_zero c.args.desks.now).net _ _ _ _ _ _ _ (told.local ∙ ap (λ (k : Climb). k.local) whole)
     (before.nodes ∙ ap (λ (s : SessionValue). length s.net.nodes) at)
     (before.links ∙ ap (λ (s : SessionValue). length s.net.links) at)
     (before.index ∙ ap (λ (s : SessionValue). index s.net) at)
     (told.took ∙ ap (λ (k : Climb). length k.steps) whole)
     (c.looked.ensures.value ∙ told.looks ∙ ap (λ (k : Climb). length k.looks) whole)
-    (c.index-to.ensures ∙ ap (λ (s : SessionValue). index s.net) (c.session-3.ensures ∙ told.state)
+    (c.index.ensures ∙ ap (λ (s : SessionValue). index s.net) (c.session-3.ensures ∙ told.state)
     ∙ ap (λ (k : Climb). index k.net) whole))
 
 -- its steps

@@ -3,16 +3,16 @@ use Rattle.std.proofs.Common.{ap}
 use Rattle.transyt_session.specs.Session.{SessionValue}
 use Rattle.transyt_io.proofs.PrintLaws.{prints_same}
 use Rattle.transyt_line_answers.specs.Commands.{answer_text}
-use Rattle.transyt_reporter.proofs.LeavesLaws.{told_by, told_leaves}
-use Rattle.transyt_reporter.proofs.writing.write_answer.Goals as goal
+use Rattle.transyt_reporter.proofs.ToldLaws.{told_by, told_leaves}
+use Rattle.transyt_reporter.proofs.workers.AnswerWriter.write_answer.Goals as goal
 
 -- a certificate and a climb begin where no trial is open
 pub certify-requires-clause-idle : goal.certify-requires-clause-idle
 certify-requires-clause-idle g c κs within =
     let of = rw c.in-Cert.is at c.requires.of in record { ready = c.requires.ready; closed = of.1; room = c.requires.room }
 
-pub climb_on-requires-clause-idle : goal.climb_on-requires-clause-idle
-climb_on-requires-clause-idle g c κs within =
+pub climb-requires-clause-idle : goal.climb-requires-clause-idle
+climb-requires-clause-idle g c κs within =
     let of = rw c.in-Climb.is at c.requires.of in record { ready = c.requires.ready; closed = of.1; room = c.requires.room }
 
 -- the desks and the steps of a certificate
@@ -21,7 +21,7 @@ returns-in-Cert-clause-leaves g c = rw c.in-Cert.is c.certify.ensures.leaves
 
 -- the desks and the steps of a climb
 pub returns-in-Climb-clause-leaves : goal.returns-in-Climb-clause-leaves
-returns-in-Climb-clause-leaves g c = rw c.in-Climb.is c.climb_on.ensures.leaves
+returns-in-Climb-clause-leaves g c = rw c.in-Climb.is c.climb.ensures.leaves
 
 -- any other answer is no more than its text
 pub write_text-requires-clause-told : goal.write_text-requires-clause-told

@@ -5,7 +5,7 @@ use Rattle.transyt_line_answers.specs.Report.{deck_answering}
 use Rattle.transyt_outcome.proofs.RunLaws.{run_new, goes_on, line_ends, line_stops, end_closes, end_stops, read_stops}
 use Rattle.transyt_reporter.specs.Reporter.{ReporterValue, IsLive, state_of}
 use Rattle.transyt_reporter.proofs.Answered.{deck_is, deck_quiet}
-use Rattle.transyt_reporter.proofs.running.run.Goals as goal
+use Rattle.transyt_reporter.proofs.reporter.Reporter.run.Goals as goal
 
 -- nothing is taken yet
 pub loop-found-init : goal.loop-found-init
@@ -70,7 +70,7 @@ returns-in-Err-answer_line g c =
     c.in-Err-answer_line.stop c.stopped-in-Err-answer_line.ensures told.part
     (λ all. told.some_steps (so.workers ∙ eqb-true _ 1 all))
     (λ is. let silent = told.silent (ap Err is) in (
-      deck_quiet so.way.before _ so.way.open_yet (sym (deck_is c.loop-found.reporter silent.0) ∙ so.way.state_is),
+      deck_quiet so.way.before _ so.way.open_yet (sym (deck_is c.loop-found.self silent.0) ∙ so.way.state_is),
       ap g.K.Sink.written silent.1,
     ))
     (λ is. told.fault (ap Err is))

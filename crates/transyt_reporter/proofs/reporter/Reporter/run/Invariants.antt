@@ -5,16 +5,16 @@ use Rattle.transyt_outcome.specs.Ends.{ends_of}
 use Rattle.transyt_outcome.specs.RunSoFar.{RunSoFar}
 use Rattle.transyt_line_answers.specs.Report.{deck_answering}
 use Rattle.transyt_reporter.specs.Reporter.{state_of, IsLive}
-use Rattle.transyt_reporter.proofs.running.run.Given as goal
+use Rattle.transyt_reporter.proofs.reporter.Reporter.run.Given as goal
 
 -- from what source, sink and steps told at its start
 abbrev pub invariant-loop-found : goal.invariant-loop-found
 invariant-loop-found g l =
     let ends = ends_of g.S.Source.left g.S.Source.last g.S.Source.faults g.K.Sink.written g.K.Sink.faults in record {
-      way : RunSoFar deck_answering (state_of l.reporter) l.reporter.lines (nat_eq l.fn.reporter.workers 1) l.reader
+      way : RunSoFar deck_answering (state_of l.self) l.self.lines (nat_eq l.fn.self.workers 1) l.reader
           (ends l.fn.source l.fn.sink) (ends l.source l.sink) l.fn.steps l.steps;
-      live : IsLive l.reporter;
-      workers : l.reporter.workers ≡ l.fn.reporter.workers;
+      live : IsLive l.self;
+      workers : l.self.workers ≡ l.fn.self.workers;
     }
 
 -- fewer lines may still be handed out

@@ -8,11 +8,11 @@ use Rattle.transyt_report.specs.Texts.{end_text}
 use Rattle.transyt_reporter.proofs.ClimbTexts.{climb_ended, step_breaks, end_written}
 use Rattle.transyt_reporter.proofs.ClimbWay.{way_begins, way_on, way_leaves}
 use Rattle.transyt_reporter.proofs.MoveLaws.{steps_round}
-use Rattle.transyt_reporter.proofs.climbing.climb_on.Goals as goal
+use Rattle.transyt_reporter.proofs.workers.AnswerWriter.climb.Goals as goal
 
 -- no line is written yet
-pub loop-desks-init : goal.loop-desks-init
-loop-desks-init g c =
+pub loop-round-init : goal.loop-round-init
+loop-round-init g c =
     let start = c.start_climber-climber.ensures in record {
       way = way_begins (c.net.ensures ∙ ap (λ (s : SessionValue). s.net) c.session.ensures) start.start start.few
           c.requires.idle.closed c.requires.idle.ready.alike _ _ _;
@@ -20,39 +20,39 @@ loop-desks-init g c =
     }
 
 -- the line of a step is written
-pub loop-desks-preserved : goal.loop-desks-preserved
-loop-desks-preserved g c =
+pub loop-round-preserved : goal.loop-round-preserved
+loop-round-preserved g c =
     let round = c.stretch_round-round.ensures in record {
-      way = way_on _ _ c.loop-desks.invariant.way round.made round.alike round.workers round.steps (tt {0})
+      way = way_on _ _ c.loop-round.invariant.way round.made round.alike round.workers round.steps (tt {0})
           (sym c.is_end.ensures ∙ c.if-is_end.false) c.in_ok-write_step.ensures;
-      workers = c.loop-desks.invariant.workers;
+      workers = c.loop-round.invariant.workers;
     }
 
 -- the last line is written, or broke off
 pub returns-then-is_end-clause-prints : goal.returns-then-is_end-clause-prints
 returns-then-is_end-clause-prints g c =
-    let index_is = c.index-index.ensures ∙ ap (λ (s : SessionValue). index s.net) c.session-then-is_end.ensures in
-    end_written c.loop-desks.invariant.way.written c.stretch_round-round.ensures.made (tt {0}) c.write_end.result _ _
+    let index_is = c.index.ensures ∙ ap (λ (s : SessionValue). index s.net) c.session-then-is_end.ensures in
+    end_written c.loop-round.invariant.way.written c.stretch_round-round.ensures.made (tt {0}) c.write.result _ _
     (sym c.is_end.ensures ∙ c.if-is_end.true)
-    (prints_same _ _ c.write_end.result _ _ c.write_end.ensures
+    (prints_same _ _ c.write.result _ _ c.write.ensures
     (λ i. end_text (c.is_local.ensures i) (c.looked.ensures.value i) (index_is i)))
 
 -- the session at the end
 pub returns-then-is_end-clause-state : goal.returns-then-is_end-clause-state
 returns-then-is_end-clause-state g c =
-    climb_ended c.loop-desks.invariant.way.written c.stretch_round-round.ensures.made c.write_end.result
+    climb_ended c.loop-round.invariant.way.written c.stretch_round-round.ensures.made c.write.result
     (sym c.is_end.ensures ∙ c.if-is_end.true)
 
 -- the line of a step broke off
 pub returns-in_err-write_step-clause-prints : goal.returns-in_err-write_step-clause-prints
 returns-in_err-write_step-clause-prints g c =
-    step_breaks c.loop-desks.invariant.way.written c.stretch_round-round.ensures.made (tt {0}) _ _ _ _
+    step_breaks c.loop-round.invariant.way.written c.stretch_round-round.ensures.made (tt {0}) _ _ _ _
     c.from_residual.ensures.0 c.in_err-write_step.ensures
 
 -- fewer places are left
-pub loop-desks-smaller : goal.loop-desks-smaller
-loop-desks-smaller g c =
-    fewer_left c.loop-desks.invariant.way.written.climb _ _ _ c.stretch_round-round.ensures.made.round
+pub loop-round-smaller : goal.loop-round-smaller
+loop-round-smaller g c =
+    fewer_left c.loop-round.invariant.way.written.climb _ _ _ c.stretch_round-round.ensures.made.round
     (sym c.is_end.ensures ∙ c.if-is_end.false)
 
 -- the step of a round is one of an offset or a change
@@ -63,9 +63,9 @@ write_step-requires g c = steps_round _ _ _ _ c.stretch_round-round.ensures.made
 pub returns-then-is_end-clause-leaves : goal.returns-then-is_end-clause-leaves
 returns-then-is_end-clause-leaves g c =
     let round = c.stretch_round-round.ensures in
-    way_leaves _ _ c.loop-desks.invariant.way round.made round.alike round.workers round.steps c.requires.idle.ready
+    way_leaves _ _ c.loop-round.invariant.way round.made round.alike round.workers round.steps c.requires.idle.ready
 
 pub returns-in_err-write_step-clause-leaves : goal.returns-in_err-write_step-clause-leaves
 returns-in_err-write_step-clause-leaves g c =
     let round = c.stretch_round-round.ensures in
-    way_leaves _ _ c.loop-desks.invariant.way round.made round.alike round.workers round.steps c.requires.idle.ready
+    way_leaves _ _ c.loop-round.invariant.way round.made round.alike round.workers round.steps c.requires.idle.ready

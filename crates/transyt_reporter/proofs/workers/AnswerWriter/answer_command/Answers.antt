@@ -1,6 +1,6 @@
 -- A command is judged, and then its answer is written.
 use Rattle.transyt_reporter.proofs.JudgedLaws.{ends_said, leaves_said, of_said, ready_said, state_said, text_said}
-use Rattle.transyt_reporter.proofs.reporter.answer_command.Goals as goal
+use Rattle.transyt_reporter.proofs.workers.AnswerWriter.answer_command.Goals as goal
 
 -- the desks are ready when desk 0 has judged the line
 pub write_answer-requires-clause-ready : goal.write_answer-requires-clause-ready
