@@ -1,9 +1,7 @@
 pub mod Copies
-pub mod Held
 pub mod Lines
-pub mod Pieces
-pub mod Pulled
 pub mod Reading
+pub mod Searching
 pub mod SpacedWords
 pub mod StdEnds
 pub mod Told

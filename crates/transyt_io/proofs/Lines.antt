@@ -1,11 +1,12 @@
 -- Cutting bytes into lines.
 use Rattle.std.proofs.Common.{◌≡◌, ℕ, zero, suc, ◌+◌, ◌-◌, ◌<◌, ◌≤◌, inl, inr, Bool, true, false, ◌==◌, if◌then◌else◌}
 use Rattle.std.proofs.Common.{List, [], ◌∷◌, ◌++◌, map, length, take, drop, min, refl, sym, ◌∙◌, ap, arith}
-use Rattle.std.proofs.Common.{append_assoc, slice_index}
-use Rattle.std.proofs.lemmas.List.{take_all, take-append-drop, take-take, length-take-le, length-take, map-append}
+use Rattle.std.proofs.Common.{append_assoc, length-append, length-drop, slice_index}
+use Rattle.std.proofs.lemmas.List.{append-nil, take_all, take-append-drop, take-take, length-take-le, length-take, map-append}
 use Rattle.std.proofs.Math.Seq.{drop-cons, take-append-add}
 use Rattle.std.proofs.lemmas.Bool.{cases_lt, or_parts, or_from, false_from_ne_true}
 use Rattle.std.specs.Str.Lines.{strip_carriage_return}
+use Rattle.transyt_io.specs.Gather.{Gathers, FirstLine}
 use Rattle.transyt_io.specs.Lines.{onto_first, cut, after_first_line, line_of, lines_by, whole, has_end}
 
 -- the kept bytes of more are those kept of the kept ones
@@ -107,6 +108,20 @@ pub cut_open : (bytes : List ℕ) → 0 < length bytes → has_end bytes ≡ fal
 cut_open [] some none = absurd (omega arith)
 cut_open (b ∷ bs) some none = open_line b bs none
 
+-- the last line
+pub last_line : (raw line piece rest : List ℕ) (are_last : Bool) → Gathers line raw → 0 < length line → piece ≡ []
+    → rest ≡ [] → are_last ≡ true → FirstLine (raw ++ piece) (line_of line) rest are_last
+last_line raw line piece rest are_last gathers some nothing empty last =
+    let all : raw ++ piece ≡ raw = ap (λ (xs : List ℕ). raw ++ xs) nothing ∙ append-nil raw in
+    let positive : 0 < length raw = omega (arith, ap length gathers.first, length-take 4098 raw) in record {
+      less = omega (arith, ap length empty, ap length all);
+      cut_off = λ keep ys over.
+          let parts = over last in
+          rw (parts.0, parts.1, empty, append-nil (raw ++ piece), all)
+          (ap (map line_of) (cut_open raw positive gathers.open_yet)
+          ∙ ap (λ (l : List ℕ). l ∷ []) (sym (ap line_of gathers.first ∙ line_of_kept raw)));
+    }
+
 -- a shorter front
 pub take_min : {X : Type 0} → (m n : ℕ) (xs : List X) → take (min m n) xs ≡ take n (take m xs)
 take_min m n xs = elim (cases_lt m n) [
@@ -145,23 +160,16 @@ module _ (bytes : List ℕ) (n : ℕ) (below : n < length bytes)
   after_line_end_at = ap after_first_line around ∙ after_line (take n bytes) (drop (n + 1) bytes) none_before
 
   -- a line that was begun ends there
-  pub gathered_line : (raw ys : List ℕ) (keep : Bool) → has_end raw ≡ false
-      → lines_by keep ((raw ++ bytes) ++ ys) ≡ line_of (raw ++ take n bytes) ∷ lines_by keep (drop (n + 1) bytes ++ ys)
-  gathered_line raw ys keep h =
-      let rest = drop (n + 1) bytes ++ ys in
-      let all : (raw ++ bytes) ++ ys ≡ (raw ++ take n bytes) ++ 10 ∷ rest =
-      ap (λ (p : List ℕ). (raw ++ p) ++ ys) around ∙ regroup raw (take n bytes) 10 (drop (n + 1) bytes) ys in
-      ap (lines_by keep) all
-      ∙ ap (map line_of) (cut_line keep (raw ++ take n bytes) rest (no_end_more raw (take n bytes) h none_before))
-
--- a line that ended in the last piece ended in all that was read
-pub ends_in_piece : (keep : Bool) (raw front back piece rest after line ys : List ℕ) → piece ≡ back → rest ≡ after
-    → lines_by keep (((raw ++ front) ++ piece) ++ ys) ≡ line ∷ lines_by keep (after ++ ys)
-    → lines_by keep ((raw ++ (front ++ back)) ++ ys) ≡ line ∷ lines_by keep (rest ++ ys)
-ends_in_piece keep raw front back piece rest after line ys same is told =
-    ap (λ (xs : List ℕ). lines_by keep (xs ++ ys)) (sym (append_assoc raw front back)
-    ∙ ap (λ (xs : List ℕ). (raw ++ front) ++ xs) (sym same)) ∙ told
-    ∙ ap (λ (xs : List ℕ). line ∷ lines_by keep (xs ++ ys)) (sym is)
+  pub first_line : (raw : List ℕ) → has_end raw ≡ false
+      → FirstLine (raw ++ bytes) (line_of (raw ++ take n bytes)) (drop (n + 1) bytes) false
+  first_line raw h = record {
+    less = omega (arith, length-append raw bytes, length-drop (n + 1) bytes);
+    cut_off = λ keep ys _.
+        let rest = drop (n + 1) bytes ++ ys in
+        ap (λ (xs : List ℕ). lines_by keep ((raw ++ xs) ++ ys)) around
+        ∙ ap (lines_by keep) (regroup raw (take n bytes) 10 (drop (n + 1) bytes) ys)
+        ∙ ap (map line_of) (cut_line keep (raw ++ take n bytes) rest (no_end_more raw (take n bytes) h none_before));
+  }
 
 -- the bytes that fit in the room that is left
 pub take_onto : {X : Type 0} → (n : ℕ) (xs ys : List X) → length xs ≤ n

@@ -1,4 +1,4 @@
-pub mod Pull
+pub mod Gather
 pub mod Streams
 pub mod Lines
 pub mod Memory

@@ -1,25 +1,12 @@
 //! One line, gathered from pieces.
-ghost use Rattle.std.specs.Prelude.{
-  ◌≡◌,
-  ◌==◌,
-  ◌-◌,
-  ◌<◌,
-  ◌≤◌,
-  ◌++◌,
-  [],
-  false,
-  None,
-  nat_lt,
-  slice_index,
-  length,
-  take,
-  vec_capacity,
-  IfSome,
-};
-ghost use Rattle.transyt_io.specs.Lines.{line_of, has_end};
-ghost use Rattle.transyt_io.specs.Pull.{Gathered};
+ghost use Rattle.std.specs.Prelude.{◌≡◌, ◌==◌, ◌-◌, ◌<◌, ◌≤◌, ◌++◌, [], true, false, slice_index, length, take, IfOk};
+ghost use Rattle.transyt_io.specs.Lines.{line_of};
+ghost use Rattle.transyt_io.specs.Gather.{EndsLine, GoesOn};
 
+use crate::block::Block;
 use memchr::memchr;
+use std::alloc::{AllocError, Global};
+use std::marker::Model;
 
 /// How many bytes of a line are kept: one more than a line that is too long stands for.
 pub(crate) const KEPT: usize = 4098;
@@ -46,68 +33,94 @@ fn ends_in_return(raw: &[u8]) -> bool
     }
 }
 
-/// Adds `piece` to what is kept of a line, up to the piece's first line end, and returns where that is.
-pub(crate) fn gather(line: &mut Vec<u8>, piece: &[u8]) -> Option<usize>
-    requires room { 4098 ≤ vec_capacity line.old }
-    requires kept { length line.old.items ≤ 4098 }
-    ensures room { 4098 ≤ vec_capacity line.new }
-    ensures kept { length line.new.items ≤ 4098 }
-    ensures within { IfSome result (λ at. at < length piece.now) }
-    ensures gathered { Gathered line.old.items line.new.items piece.now result }
-{
-    let Some(at) = memchr(b'\n', piece) else {
-        keep(line, piece);
-        return None;
-    };
-    keep(line, &piece[..at]);
-    close(line);
-    Some(at)
+/// What is kept of a line: its first 4,098 bytes, which tell what the line is, and at its end the line itself.
+///
+/// Its memory is taken in `open`.
+#[derive(Drop)]
+pub(crate) struct KeptLine {
+    bytes: Vec<u8>,
 }
 
-/// Adds `piece` to what is kept of a line.
-fn keep(line: &mut Vec<u8>, piece: &[u8])
-    requires room { 4098 ≤ vec_capacity line.old }
-    requires kept { length line.old.items ≤ 4098 }
-    ensures line { line.new.items ≡ take 4098 (line.old.items ++ piece.now) }
-    ensures room { 4098 ≤ vec_capacity line.new }
-{
-    let n = piece.len().min(KEPT - line.len());
-    if line.extend_from_slice(&piece[..n]).is_err() {
-        unreachable!();
+impl Model for KeptLine {
+    ghost use Rattle.std.specs.Prelude.{ℕ, List, ◌≤◌, length, vec_capacity};
+
+    ghost Value = { List ℕ };
+
+    ghost view = { λ line. line.bytes.items };
+
+    ghost invariant = { λ line. record {
+      room : 4098 ≤ vec_capacity line.bytes;
+      kept : length line.bytes.items ≤ 4098;
+    } };
+}
+
+impl KeptLine {
+    /// A line of no bytes.
+    pub(crate) fn open(alloc: Global) -> Result<KeptLine, AllocError>
+        ensures { IfOk result (λ line. line ≡ []) }
+    {
+        Ok(KeptLine {
+            bytes: Vec::with_capacity(alloc, KEPT)?,
+        })
     }
-}
 
-/// Begins a line with `piece`, up to the piece's first line end, and returns where that is.
-pub(crate) fn begin(line: &mut Vec<u8>, piece: &[u8]) -> Option<usize>
-    requires room { 4098 ≤ vec_capacity line.old }
-    ensures room { 4098 ≤ vec_capacity line.new }
-    ensures kept { length line.new.items ≤ 4098 }
-    ensures within { IfSome result (λ at. at < length piece.now) }
-    ensures begun { Gathered [] line.new.items piece.now result }
-    ensures none { result ≡ None → has_end piece.now ≡ false }
-{
-    line.clear();
-    gather(line, piece)
-}
+    /// The bytes kept.
+    pub(crate) fn bytes(&self) -> &[u8]
+        ensures { result.now ≡ self.now }
+    {
+        &self.bytes
+    }
 
-/// Makes of what is kept of a line the line itself.
-pub(crate) fn close(line: &mut Vec<u8>)
-    ensures line { line.new.items ≡ line_of line.old.items }
-    ensures kept { length line.new.items ≤ 4098 }
-    ensures room { vec_capacity line.new ≡ vec_capacity line.old }
-{
-    let length = line_length(line);
-    line.truncate(length);
-}
+    /// Begins a line.
+    pub(crate) fn clear(&mut self)
+        ensures { self.new ≡ [] }
+    {
+        self.bytes.clear();
+    }
 
-/// Makes of what is kept at the end of a source the last line, and returns whether there is one.
-pub(crate) fn close_last(line: &mut Vec<u8>) -> bool
-    ensures some { result ≡ nat_lt 0 (length line.old.items) }
-    ensures line { line.new.items ≡ line_of line.old.items }
-    ensures kept { length line.new.items ≤ 4098 }
-    ensures room { vec_capacity line.new ≡ vec_capacity line.old }
-{
-    let some = !line.is_empty();
-    close(line);
-    some
+    /// Adds the bytes of `block`, up to the first line end, and returns whether there is one: then the block holds
+    /// what comes after it.
+    pub(crate) fn gather(&mut self, block: &mut Block) -> bool
+        ensures ends { result ≡ true → EndsLine self.old self.new block.old block.new }
+        ensures goes_on { result ≡ false → GoesOn self.old self.new block.old }
+    {
+        let piece = block.bytes();
+        let Some(at) = memchr(b'\n', piece) else {
+            self.keep(piece);
+            return false;
+        };
+        self.keep(&piece[..at]);
+        self.close();
+        block.skip(at + 1);
+        true
+    }
+
+    /// Adds `piece`.
+    fn keep(&mut self, piece: &[u8])
+        ensures { self.new ≡ take 4098 (self.old ++ piece.now) }
+    {
+        let n = piece.len().min(KEPT - self.bytes.len());
+        if self.bytes.extend_from_slice(&piece[..n]).is_err() {
+            unreachable!();
+        }
+    }
+
+    /// Makes of what is kept the line itself.
+    fn close(&mut self)
+        ensures { self.new ≡ line_of self.old }
+    {
+        let length = line_length(&self.bytes);
+        self.bytes.truncate(length);
+    }
+
+    /// Makes of what is kept at the end of a source the last line, and returns whether there is one.
+    pub(crate) fn close_last(&mut self) -> bool
+        ensures some { result ≡ true → 0 < length self.old }
+        ensures none { result ≡ false → self.old ≡ [] }
+        ensures line { self.new ≡ line_of self.old }
+    {
+        let some = !self.bytes.is_empty();
+        self.close();
+        some
+    }
 }

@@ -1,10 +1,10 @@
 //! The bytes of an input that is taken whole.
-ghost use Rattle.std.specs.Prelude.{◌≡◌, ◌<◌, ◌≤◌, [], length, vec_capacity, IfOk, IsErrOf};
+ghost use Rattle.std.specs.Prelude.{◌≡◌, ◌≤◌, [], IfOk, IsErrOf};
 ghost use Rattle.transyt_io.specs.Streams.{Rose, TakesAll};
 
-use crate::asking::{BLOCK, MOST, room};
+use crate::block::{Block, MOST};
 use crate::reader::ReadStop;
-use crate::streams::{Failed, Source};
+use crate::streams::Source;
 use std::alloc::{AllocError, Global};
 use std::marker::Model;
 
@@ -14,18 +14,17 @@ use std::marker::Model;
 #[derive(Drop)]
 pub struct Intake {
     bytes: Vec<u8>,
-    block: Vec<u8>,
+    block: Block,
 }
 
 impl Model for Intake {
-    ghost use Rattle.std.specs.Prelude.{ℕ, List, ◌≤◌, ◌<◌, length, vec_capacity};
+    ghost use Rattle.std.specs.Prelude.{ℕ, List, ◌≤◌, vec_capacity};
 
     ghost Value = { List ℕ };
 
     ghost view = { λ intake. intake.bytes.items };
 
-    ghost invariant = { λ intake. (4194304 ≤ vec_capacity intake.bytes)
-        × (0 < length intake.block.items) };
+    ghost invariant = { λ intake. 4194304 ≤ vec_capacity intake.bytes };
 }
 
 impl Intake {
@@ -35,7 +34,7 @@ impl Intake {
     {
         Ok(Intake {
             bytes: Vec::with_capacity(alloc, MOST)?,
-            block: vec![in alloc; 0; BLOCK]?,
+            block: Block::open(alloc)?,
         })
     }
 
@@ -58,35 +57,14 @@ impl Intake {
         ensures fault { IsErrOf result ReadStop.Fault →
             Rose (S.faults source.old) (S.faults source.new) }
     {
-        take_on(source, &mut self.bytes, &mut self.block)
-    }
-}
-
-/// Takes the bytes of a source, a block at a time.
-fn take_on<S: Source>(source: &mut S, bytes: &mut Vec<u8>, block: &mut [u8]) -> Result<(), ReadStop>
-    requires some { 0 < length block.old }
-    requires room { 4194304 ≤ vec_capacity bytes.old }
-    requires empty { bytes.old.items ≡ [] }
-    ensures room { 4194304 ≤ vec_capacity bytes.new }
-    ensures all { TakesAll bytes.new.items (S.left source.old) (S.left source.new) result }
-    ensures later { S.faults source.old ≤ S.faults source.new }
-    ensures fault { IsErrOf result ReadStop.Fault →
-        Rose (S.faults source.old) (S.faults source.new) }
-{
-    loop {
-        let want = room(bytes.len(), block.len());
-        let n = match source.read(&mut block[..want]) {
-            Ok(n) => n,
-            Err(Failed) => return Err(ReadStop::Fault),
-        };
-        if n == 0 {
-            return Ok(());
-        }
-        if bytes.len() == MOST {
-            return Err(ReadStop::TooLong);
-        }
-        if bytes.extend_from_slice(&block[..n]).is_err() {
-            unreachable!();
+        loop {
+            let n = self.block.read(source, self.bytes.len())?;
+            if n == 0 {
+                return Ok(());
+            }
+            if self.bytes.extend_from_slice(self.block.bytes()).is_err() {
+                unreachable!();
+            }
         }
     }
 }

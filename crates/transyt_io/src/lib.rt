@@ -23,7 +23,7 @@
 //! here is this project's own.
 #![tactic(auto)]
 
-mod asking;
+mod block;
 mod calls;
 mod cut;
 mod forms;

@@ -1,27 +1,12 @@
 //! The lines of a source.
-ghost use Rattle.std.specs.Prelude.{
-  ◌≡◌,
-  ◌<◌,
-  ◌≤◌,
-  ◌+◌,
-  ◌⊎◌,
-  true,
-  Some,
-  length,
-  vec_capacity,
-  is_some,
-  IfOk,
-  IsErrOf,
-  IsSome,
-};
+ghost use Rattle.std.specs.Prelude.{◌≡◌, ◌<◌, ◌≤◌, ◌⊎◌, true, Some, is_some, IfOk, IsSome};
 ghost use Rattle.transyt_io.specs.Lines.{has_end};
 ghost use Rattle.transyt_io.specs.Streams.{Rose};
-ghost use Rattle.transyt_io.specs.Pull.{Pulled};
 ghost use Rattle.transyt_io.specs.Reading.{ReadsLine, most_lines_left, new_reading, is_text};
 
-use crate::asking::{BLOCK, MOST, room};
-use crate::gather::{KEPT, begin, close_last, gather};
-use crate::streams::{Failed, Source};
+use crate::block::Block;
+use crate::gather::KeptLine;
+use crate::streams::Source;
 use std::alloc::{AllocError, Global};
 use std::marker::Model;
 
@@ -52,10 +37,8 @@ pub enum ReadStop {
 /// tell what the line is.
 #[derive(Drop)]
 pub struct LineReader {
-    line: Vec<u8>,
-    block: Vec<u8>,
-    at: usize,
-    end: usize,
+    line: KeptLine,
+    block: Block,
     taken: usize,
     has_line: bool,
     ended: bool,
@@ -63,28 +46,22 @@ pub struct LineReader {
 }
 
 impl Model for LineReader {
-    ghost use Rattle.std.specs.Prelude.{◌≡◌, ◌<◌, ◌≤◌, true, Some, None, length, vec_len, vec_capacity, if◌then◌else◌};
-    ghost use Rattle.std.specs.List.{between};
+    ghost use Rattle.std.specs.Prelude.{◌≡◌, ◌≤◌, true, Some, None, length, if◌then◌else◌};
     ghost use Rattle.transyt_io.specs.Reading.{Reading};
 
     ghost Value = { Reading };
 
     ghost view = { λ r. record {
       taken = r.taken;
-      held = between r.at r.«end» r.block.items;
+      held = r.block;
       ended = r.ended;
       live = r.live;
-      line = if r.has_line then Some r.line.items else None;
+      line = if r.has_line then Some r.line else None;
     } };
 
     ghost invariant = { λ r. record {
-      low : r.at ≤ r.«end»;
-      high : r.«end» ≤ vec_len r.block;
-      some : 0 < vec_len r.block;
-      room : 4098 ≤ vec_capacity r.line;
-      kept : length r.line.items ≤ 4098;
       most : r.taken ≤ 4194304;
-      none : r.ended ≡ true → r.at ≡ r.«end»;
+      none : r.ended ≡ true → length r.block ≡ 0;
     } };
 }
 
@@ -94,10 +71,8 @@ impl LineReader {
         ensures { IfOk result (λ reader. reader ≡ new_reading) }
     {
         Ok(LineReader {
-            line: Vec::with_capacity(alloc, KEPT)?,
-            block: vec![in alloc; 0; BLOCK]?,
-            at: 0,
-            end: 0,
+            line: KeptLine::open(alloc)?,
+            block: Block::open(alloc)?,
             taken: 0,
             has_line: false,
             ended: false,
@@ -118,7 +93,7 @@ impl LineReader {
         requires { IsSome self.now.line }
         ensures { self.now.line ≡ Some result.now }
     {
-        &self.line
+        self.line.bytes()
     }
 
     /// The next line of the source, which `line` then gives, or its end.
@@ -140,83 +115,26 @@ impl LineReader {
             Rose (S.faults source.old) (S.faults source.new) }
     {
         self.has_line = false;
+        self.live = false;
         if self.ended {
-            self.live = false;
             return Ok(Line::End);
         }
-        if let Some(n) = begin(&mut self.line, &self.block[self.at..self.end]) {
-            self.at += n + 1;
-            self.has_line = true;
-            return Ok(Line::Text);
-        }
-        self.at = 0;
-        self.end = 0;
-        match read_on(source, &mut self.block, &mut self.line, &mut self.taken) {
-            Ok(Some(found)) => {
-                self.at = found.at;
-                self.end = found.end;
-                self.has_line = true;
-                Ok(Line::Text)
-            }
-            Ok(None) => {
+        self.line.clear();
+        while !self.line.gather(&mut self.block) {
+            let n = self.block.read(source, self.taken)?;
+            if n == 0 {
                 self.ended = true;
-                if close_last(&mut self.line) {
+                if self.line.close_last() {
                     self.has_line = true;
+                    self.live = true;
                     return Ok(Line::Text);
                 }
-                self.live = false;
-                Ok(Line::End)
+                return Ok(Line::End);
             }
-            Err(stop) => {
-                self.live = false;
-                Err(stop)
-            }
+            self.taken += n;
         }
-    }
-}
-
-/// Where the block holds what came after a line.
-#[derive(Drop)]
-struct Pull {
-    at: usize,
-    end: usize,
-}
-
-/// Reads on until the line or the source ends. The line so far is in `line`; what comes after its end is in `block`.
-fn read_on<S: Source>(
-    source: &mut S,
-    block: &mut [u8],
-    line: &mut Vec<u8>,
-    taken: &mut usize,
-) -> Result<Option<Pull>, ReadStop>
-    requires some { 0 < length block.old }
-    requires most { taken.old ≤ 4194304 }
-    requires room { 4098 ≤ vec_capacity line.old }
-    requires kept { length line.old.items ≤ 4098 }
-    ensures room { 4098 ≤ vec_capacity line.new }
-    ensures kept { length line.new.items ≤ 4098 }
-    ensures pulled { Pulled line.old.items line.new.items block.new taken.old taken.new
-        (S.left source.old) (S.left source.new) (S.last source.new) result }
-    ensures most { taken.new ≤ 4194304 }
-    ensures later { S.faults source.old ≤ S.faults source.new }
-    ensures fault { IsErrOf result ReadStop.Fault →
-        Rose (S.faults source.old) (S.faults source.new) }
-{
-    loop {
-        let want = room(*taken, block.len());
-        let n = match source.read(&mut block[..want]) {
-            Ok(n) => n,
-            Err(Failed) => return Err(ReadStop::Fault),
-        };
-        if n == 0 {
-            return Ok(None);
-        }
-        if *taken == MOST {
-            return Err(ReadStop::TooLong);
-        }
-        *taken += n;
-        if let Some(at) = gather(line, &block[..n]) {
-            return Ok(Some(Pull { at: at + 1, end: n }));
-        }
+        self.has_line = true;
+        self.live = true;
+        Ok(Line::Text)
     }
 }
