@@ -19,21 +19,20 @@ abbrev pub inside : {S K H : Type 0} → (H → K) → Sides S H → Sides S K
 inside inner sides = record { source = sides.source; sink = inner sides.sink; tell = sides.tell }
 
 -- the call over a sink that holds another, as one over that other
-pub inside_call : {S K H : Type 0} (inner : H → K) (shown given : List (List ℕ)) {old new : Sides S H} {ended : Status}
-    → shown ≡ given → TopCall shown old new ended → TopCall given (inside inner old) (inside inner new) ended
-inside_call {S} {K} inner shown given {old} {new} {ended} same call =
-    subst (λ (words : List (List ℕ)). TopCall words (inside inner old) (inside inner new) ended) same (record {
-      bad_words = call.bad_words;
-      untouched = λ bad. ap (inside inner) (call.untouched bad);
-      outcome = call.outcome;
-      reads_nothing = call.reads_nothing;
-      read_fault = call.read_fault;
-      write_fault = call.write_fault;
-      told = call.told;
-      complete = call.complete;
-      too_long = call.too_long;
-      headline = call.headline;
-    })
+pub inside_call : {S K H : Type 0} (inner : H → K) {words : List (List ℕ)} {old new : Sides S H} {ended : Status}
+    → TopCall words old new ended → TopCall words (inside inner old) (inside inner new) ended
+inside_call inner call = record {
+  bad_words = call.bad_words;
+  untouched = λ bad. ap (inside inner) (call.untouched bad);
+  outcome = call.outcome;
+  reads_nothing = call.reads_nothing;
+  read_fault = call.read_fault;
+  write_fault = call.write_fault;
+  told = call.told;
+  complete = call.complete;
+  too_long = call.too_long;
+  headline = call.headline;
+}
 
 -- the run of the program, where the words shown to the top call are those that it was given
 pub program_ran : {S K : Type 0} (shown given : List (List ℕ)) (old new : Sides S K) (ended : Status) (number : ℕ)

@@ -83,13 +83,13 @@ run_headline (w.Run workers) run told = told
 run_headline _ run told = absurd run
 
 -- a task without steps by its cut takes none
-most_none : (input : List ℕ) (cut : Result Cut CardStop) → most_of_cut (λ net line table. 0) input cut ≡ 0
+most_none : (input : List ℕ) (cut : Result Cut CardStop) → most_of_cut (λ case. 0) input cut ≡ 0
 most_none input (Ok cut) = refl
 most_none input (Err stop) = refl
 
 -- words without steps take none
 pub no_steps : {left left_new : Option (List ℕ)} {steps steps_new : ℕ}
-    → StepsWithin (most_after (λ net line table. 0)) left left_new steps steps_new → steps ≤ steps_new
+    → StepsWithin (most_after (λ case. 0)) left left_new steps steps_new → steps ≤ steps_new
     → steps_new ≡ steps
 no_steps h later =
     let within = h.within in

@@ -1,10 +1,12 @@
--- The numbers that words give: workers, nodes, a town, cycle times.
+-- The numbers that words give: workers, nodes, a town, cycle times, starts.
 use Rattle.std.specs.Prelude.{ℕ, ◌-◌, ◌≤◌, ◌<◌, ◌&&◌, nat_le, List, [], ◌∷◌, Option, None, Some}
 use Rattle.std.specs.Bool.{then_some}
 use Rattle.std.specs.Option.{option_map, option_and_then}
 use Rattle.transyt_num.specs.Number.{number_of}
 use Rattle.transyt_climbs.specs.Scan.{scan_of}
 use Rattle.transyt_climbs.specs.declared.scan_word.ScanWord.{ScanWord}
+use Rattle.transyt_words.specs.declared.starts.StartsWord.{StartsWord}
+use Rattle.transyt_words.specs.Plans.{starts_of}
 use Rattle.transyt.specs.declared.town.Town.{Town}
 
 -- the number of workers of a word: one digit from 1 to 8
@@ -35,3 +37,16 @@ abbrev pub times_of : List (List ℕ) → Option ScanWord
 times_of (workers ∷ low ∷ high ∷ by ∷ []) =
     times_by (workers_of workers) (number_of low) (number_of high) (number_of by)
 times_of _ = None
+
+-- workers and starts by the numbers of four words
+abbrev pub starts_by : Option ℕ → Option ℕ → Option ℕ → Option ℕ → Option StartsWord
+starts_by (Some workers) (Some seed) (Some count) (Some from) = starts_of workers seed count from
+starts_by _ _ _ _ = None
+
+-- `w seed count`, which begins with the deck's own plan, and `w seed count from`
+abbrev pub starts_asked : List (List ℕ) → Option StartsWord
+starts_asked (workers ∷ seed ∷ count ∷ []) =
+    starts_by (workers_of workers) (number_of seed) (number_of count) (Some 0)
+starts_asked (workers ∷ seed ∷ count ∷ from ∷ []) =
+    starts_by (workers_of workers) (number_of seed) (number_of count) (number_of from)
+starts_asked _ = None

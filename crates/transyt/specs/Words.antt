@@ -2,7 +2,6 @@
 use Rattle.std.specs.Prelude.{◌≡◌, ℕ, ◌≤◌, List, [], ◌∷◌, Option, None, Some, codes, if◌then◌else◌}
 use Rattle.std.specs.Option.{option_map, option_and_then}
 use Rattle.std.specs.Str.{bytes_eq}
-use Rattle.transyt_num.specs.Number.{number_of}
 use Rattle.transyt_deck.specs.Cards.{deck_text}
 use Rattle.transyt_make.specs.Made.{made}
 use Rattle.transyt_outcome.specs.declared.status.Status.{Status}
@@ -16,11 +15,11 @@ use Rattle.transyt_words.specs.Audit.{audit_answer, audit_most}
 use Rattle.transyt_words.specs.Counts.{counts_answer}
 use Rattle.transyt_words.specs.Equisat.{equisat_answer}
 use Rattle.transyt_words.specs.Scan.{scan_answer}
-use Rattle.transyt_words.specs.Plans.{IsStarts, starts_of, cycles_answer, starts_answer}
+use Rattle.transyt_words.specs.Plans.{IsStarts, cycles_answer, starts_answer}
 use Rattle.transyt.specs.declared.town.Town.{Town}
 use Rattle.transyt.specs.declared.word.Word.{Word}
 use Rattle.transyt.specs.declared.word.Word.TheVariants as w
-use Rattle.transyt.specs.Numbers.{workers_of, IsTown, town_of, times_of}
+use Rattle.transyt.specs.Numbers.{workers_of, IsTown, town_of, starts_asked, times_of}
 use Rattle.transyt.specs.Version.{version_text}
 use Rattle.transyt.specs.Tasks.{Task, Reads, Writes, TextSteps}
 
@@ -60,19 +59,6 @@ brief_word (seed ∷ nodes ∷ []) = brief_by (town_of seed nodes) (Some 1)
 brief_word (seed ∷ nodes ∷ workers ∷ []) = brief_by (town_of seed nodes) (workers_of workers)
 brief_word _ = None
 
--- the task of `starts` with these numbers
-abbrev pub starts_by : Option ℕ → Option ℕ → Option ℕ → Option ℕ → Option Word
-starts_by (Some workers) (Some seed) (Some count) (Some from) = option_map w.Starts (starts_of workers seed count from)
-starts_by _ _ _ _ = None
-
--- `starts w seed count`, which begins with the deck's own plan, and `starts w seed count from`
-abbrev pub starts_word : List (List ℕ) → Option Word
-starts_word (workers ∷ seed ∷ count ∷ []) =
-    starts_by (workers_of workers) (number_of seed) (number_of count) (Some 0)
-starts_word (workers ∷ seed ∷ count ∷ from ∷ []) =
-    starts_by (workers_of workers) (number_of seed) (number_of count) (number_of from)
-starts_word _ = None
-
 -- the word that is spelled; none where the program doesn't take the words
 abbrev pub word_of : List (List ℕ) → Option Word
 word_of [] = None
@@ -84,7 +70,7 @@ word_of (name ∷ rest) =
     else if bytes_eq name (codes "equisat") then alone w.Equisat rest
     else if bytes_eq name (codes "scan") then option_map w.Scan (times_of rest)
     else if bytes_eq name (codes "cycles") then option_map w.Cycles (times_of rest)
-    else if bytes_eq name (codes "starts") then starts_word rest
+    else if bytes_eq name (codes "starts") then option_map w.Starts (starts_asked rest)
     else if bytes_eq name (codes "audit") then alone w.Audit rest
     else if bytes_eq name (codes "version") then alone w.Version rest
     else None

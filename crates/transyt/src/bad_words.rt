@@ -3,19 +3,20 @@
 use std::io;
 use transyt_num::read_number;
 
-/// The numbers that stand after a word: how many at least and at most, the same in words, and the place of the number of
-/// workers among them.
+/// The numbers that stand after a word: the word, how many at least and at most, the same in words, and the place of the
+/// number of workers among them.
 #[derive(Clone, Copy)]
-struct Numbers {
+struct Numbers<'a> {
+    name: &'a str,
     least: usize,
     most: usize,
     takes: &'static str,
     workers: usize,
 }
 
-impl Numbers {
+impl<'a> Numbers<'a> {
     /// The numbers of a word; none where it is no word.
-    fn of(name: &str) -> Option<Numbers> {
+    fn of(name: &'a str) -> Option<Numbers<'a>> {
         let (least, most, takes, workers) = match name {
             "run" => (0, 1, "one number at most", 0),
             "counts" | "equisat" | "audit" | "version" => (0, 0, "no number", 0),
@@ -26,6 +27,7 @@ impl Numbers {
             _ => return None,
         };
         Some(Numbers {
+            name,
             least,
             most,
             takes,
@@ -65,12 +67,8 @@ fn tell_range<R: Eprint>(rt: &R, name: &str, rest: &[String]) -> io::Result<()> 
 }
 
 /// Tells of the first number that is none, or else out of its range.
-fn tell_numbers<R: Eprint>(
-    rt: &R,
-    name: &str,
-    numbers: Numbers,
-    rest: &[String],
-) -> io::Result<()> {
+fn tell_numbers<R: Eprint>(rt: &R, numbers: Numbers<'_>, rest: &[String]) -> io::Result<()> {
+    let name = numbers.name;
     for (place, word) in rest.iter().enumerate() {
         let one_digit = matches!(word.as_bytes(), [b'1'..=b'8']);
         if place == numbers.workers && !one_digit {
@@ -90,7 +88,7 @@ fn tell_word<R: Eprint>(rt: &R, name: &str, rest: &[String]) -> io::Result<()> {
     };
     let count = rest.len();
     if numbers.least <= count && count <= numbers.most {
-        return tell_numbers(rt, name, numbers, rest);
+        return tell_numbers(rt, numbers, rest);
     }
     let are = if count == 1 { "is" } else { "are" };
     eprintln!(rt; "{name} takes {}, and {count} {are} here", numbers.takes)

@@ -36,7 +36,7 @@ pub use ending::{exit_of, sentence_of};
 pub use given::{given_words, run_args};
 pub use laws::{worked_ranges, worked_steps, worked_tasks, worked_words};
 pub use over::run_over;
-pub use program::{run_program, run_steady, run_tallied};
+pub use program::{Call, run_program};
 pub use refusing::refused_by_deck;
 pub use top::transyt;
 pub use transyt_desks::{Gate, OpenGate};

@@ -30,71 +30,69 @@ fn after_name(given: &[String]) -> &[String]
     }
 }
 
-/// The top call with a counter of steps that this blank makes, and with no more workers than there are processors.
-fn run_words<R: Threads + Sync + AllocGlobal, S: Source, K: Sink, L: Ledger>(
-    rt: &R,
-    words: &[String],
-    source: &mut S,
-    sink: &mut K,
-    blank: Blank,
-) -> Status
-    requires name { blank.name ≡ L.name }
-    requires parts { blank.parts ≡ L.parts }
-    requires some { 0 < L.parts }
-    ensures { TopCall (map string_bytes words.now)
-        (sides_of (ends_of S.left S.last S.faults K.written K.faults) source.old sink.old)
-        (sides_of (ends_of S.left S.last S.faults K.written K.faults) source.new sink.new) result }
-{
-    let mut steps = Steps::<L>::begin(blank);
-    transyt(
-        rt,
-        rt.alloc(),
-        words,
-        source,
-        sink,
-        &HostGate { rt },
-        &mut steps,
-    )
+/// A call of the program: the runtime, and the words after the program's name.
+#[derive(Drop)]
+pub struct Call<'a, R> {
+    /// The runtime.
+    pub rt: &'a R,
+    /// The words.
+    pub words: &'a [String],
 }
 
-/// The top call with a counter of steps of its own.
-fn run_call<R: Threads + Sync + AllocGlobal, S: Source, K: Sink>(
-    rt: &R,
-    words: &[String],
-    source: &mut S,
-    sink: &mut K,
-) -> Status
-    ensures { TopCall (map string_bytes words.now)
-        (sides_of (ends_of S.left S.last S.faults K.written K.faults) source.old sink.old)
-        (sides_of (ends_of S.left S.last S.faults K.written K.faults) source.new sink.new) result }
-{
-    run_words::<R, S, K, Brand>(rt, words, source, sink, Blank::new(1))
-}
+impl<'a, R: Threads + Sync + AllocGlobal> Call<'a, R> {
+    /// The top call with a counter of steps that this blank makes, and with no more workers than there are processors.
+    fn run_counted<S: Source, K: Sink, L: Ledger>(
+        &self,
+        source: &mut S,
+        sink: &mut K,
+        blank: Blank,
+    ) -> Status
+        requires name { blank.name ≡ L.name }
+        requires parts { blank.parts ≡ L.parts }
+        requires some { 0 < L.parts }
+        ensures { TopCall (map string_bytes self.now.words.now)
+            (sides_of (ends_of S.left S.last S.faults K.written K.faults) source.old sink.old)
+            (sides_of (ends_of S.left S.last S.faults K.written K.faults) source.new sink.new)
+            result }
+    {
+        let rt = self.rt;
+        let mut steps = Steps::<L>::begin(blank);
+        transyt(
+            rt,
+            rt.alloc(),
+            self.words,
+            source,
+            sink,
+            &HostGate { rt },
+            &mut steps,
+        )
+    }
 
-/// The top call over a source that never fails: it ends with no fault of a read.
-#[tactic(auto, using(crate::proofs::ProgramLaws::none_rose))]
-pub fn run_steady<R: Threads + Sync + AllocGlobal, K: Sink>(
-    rt: &R,
-    words: &[String],
-    source: &mut SteadySource,
-    sink: &mut K,
-) -> Status
-    ensures { result ≢ Status.ReadFault }
-{
-    run_call(rt, words, source, sink)
-}
+    /// The top call with a counter of steps of its own.
+    fn run<S: Source, K: Sink>(&self, source: &mut S, sink: &mut K) -> Status
+        ensures { TopCall (map string_bytes self.now.words.now)
+            (sides_of (ends_of S.left S.last S.faults K.written K.faults) source.old sink.old)
+            (sides_of (ends_of S.left S.last S.faults K.written K.faults) source.new sink.new)
+            result }
+    {
+        self.run_counted::<S, K, Brand>(source, sink, Blank::new(1))
+    }
 
-/// The top call over a sink that never fails: it ends with no fault of a write.
-#[tactic(auto, using(crate::proofs::ProgramLaws::none_rose))]
-pub fn run_tallied<R: Threads + Sync + AllocGlobal, S: Source>(
-    rt: &R,
-    words: &[String],
-    source: &mut S,
-    sink: &mut TallySink,
-) -> Status
-    ensures { result ≢ Status.WriteFault }
-{
-    run_call(rt, words, source, sink)
+    /// The top call over a source that never fails: it ends with no fault of a read.
+    #[tactic(auto, using(crate::proofs::ProgramLaws::none_rose))]
+    pub fn run_steady<K: Sink>(&self, source: &mut SteadySource, sink: &mut K) -> Status
+        ensures { result ≢ Status.ReadFault }
+    {
+        self.run(source, sink)
+    }
+
+    /// The top call over a sink that never fails: it ends with no fault of a write.
+    #[tactic(auto, using(crate::proofs::ProgramLaws::none_rose))]
+    pub fn run_tallied<S: Source>(&self, source: &mut S, sink: &mut TallySink) -> Status
+        ensures { result ≢ Status.WriteFault }
+    {
+        self.run(source, sink)
+    }
 }
 
 /// Tells standard error why not all was done, in a sentence or with the lists of words that the program takes. Of a
@@ -109,27 +107,6 @@ fn tell<R: Eprint>(rt: &R, ended: Result<Status, ErrorKind>) {
     if let Some(sentence) = sentence_of(ended) {
         let _ = eprintln!(rt; "{sentence}");
     }
-}
-
-/// The top call with the words after the program's name, into a sink that tells remarks; standard error is told why not
-/// all was done.
-fn run_given<R: Threads + Sync + Eprint + AllocGlobal, S: Source, K: Sink>(
-    rt: &R,
-    given: &[String],
-    source: &mut S,
-    telling: &mut Telling<'_, R, K>,
-) -> Status
-    ensures { TopCall (map string_bytes (after_name given.now))
-        (sides_of (ends_of S.left S.last S.faults K.written K.faults) source.old telling.old.sink)
-        (sides_of (ends_of S.left S.last S.faults K.written K.faults) source.new telling.new.sink)
-        result }
-{
-    let status = run_call(rt, after_name(given), source, telling);
-    if let Status::BadWords = status {
-        tell_bad_words(rt, after_name(given));
-    }
-    tell(rt, Ok(status));
-    status
 }
 
 /// The program without words: nothing is read or written.
@@ -173,7 +150,16 @@ pub fn run_program<R: Threads + Sync + Eprint + AllocGlobal, S: Source, K: Sink>
         Err(error) => return (run_without(rt, error.kind()), sink),
     };
     let mut telling = Telling { rt, sink };
-    let status = run_given(rt, &words, source, &mut telling);
+    let call = Call {
+        rt,
+        words: after_name(&words),
+    };
+    let status = call.run(source, &mut telling);
+    if let Status::BadWords = status {
+        tell_bad_words(rt, call.words);
+    }
+    tell(rt, Ok(status));
+    drop(call);
     drop(words);
     (exit_of(Ok(status)), telling.sink)
 }

@@ -6,7 +6,7 @@ ghost use Rattle.transyt.specs.Reports.{ClimbDescends};
 ghost use Rattle.transyt.specs.Tasks.{TaskOutcome, TaskHeadline, TaskComplete, TaskTooLong, IsWriting};
 ghost use Rattle.transyt.specs.Words.{task, task_of, WordSteps, IsRun, word_of, IsWord};
 
-use crate::town::{write_made, write_made_brief};
+use crate::town::{Brief, write_made};
 use crate::version::write_version;
 use crate::word::{Word, word_of};
 use std::alloc::Global;
@@ -17,26 +17,33 @@ use transyt_io::{Sink, Source};
 use transyt_outcome::Status;
 use transyt_reporter::{Workers, run_deck};
 use transyt_steps::Steps;
-use transyt_words::{AuditWord, CountsWord, CyclesWord, EquisatWord, Host, answer_whole};
+use transyt_words::{AuditWord, CountsWord, CyclesWord, EquisatWord, HostedWord};
 
-/// The runtime, whose threads the workers of a word use, the allocator, and the gate that the workers pass.
+/// A call with a word: the word, the runtime, whose threads its workers use, the allocator, and the gate that they
+/// pass.
 #[derive(Drop)]
-struct Crew<'a, R, G> {
+struct WordCall<'a, R, G> {
     rt: &'a R,
     alloc: Global,
     gate: &'a G,
+    word: Word,
 }
 
-impl<'a, R, G: Gate> Crew<'a, R, G> {
-    /// The runtime and the allocator.
-    fn host(&self) -> Host<'a, R> {
-        Host {
+impl<'a, R, G> WordCall<'a, R, G> {
+    /// A word that takes its input whole, with the runtime and the allocator.
+    fn hosted<W>(&self, word: W) -> HostedWord<'a, R, W>
+        ensures { result.word ≡ word }
+    {
+        HostedWord {
             rt: self.rt,
             alloc: self.alloc,
+            word,
         }
     }
+}
 
-    /// So many workers of it, but no more than its gate lets in at once.
+impl<'a, R, G: Gate> WordCall<'a, R, G> {
+    /// So many workers, but no more than the gate lets in at once.
     fn workers(&self, count: u32) -> Workers<'a, R, G>
         requires some { 1 ≤ count }
         requires most { count ≤ 8 }
@@ -54,42 +61,47 @@ impl<'a, R, G: Gate> Crew<'a, R, G> {
     }
 }
 
-/// Does what a word asks for.
-#[tactic(auto, using(crate::proofs::TaskLaws::no_steps))]
-fn answer_word<R: Threads + Sync, S: Source, K: Sink, G: Gate, L: Ledger>(
-    crew: &Crew<'_, R, G>,
-    word: Word,
-    source: &mut S,
-    sink: &mut K,
-    steps: &mut Steps<L>,
-) -> Status
-    requires { IsWord word }
-    ensures outcome { TaskOutcome (task word) (S.left source.old) (S.left source.new)
-        (S.last source.new)
-        (K.written sink.old) (K.written sink.new) result }
-    ensures read_fault { result ≡ Status.ReadFault
-        → Rose (S.faults source.old) (S.faults source.new) }
-    ensures write_fault { result ≡ Status.WriteFault
-        → Rose (K.faults sink.old) (K.faults sink.new) }
-    ensures untouched { IsWriting (task word) → source.new ≡ source.old }
-    ensures steps { WordSteps word (S.left source.old) (S.left source.new) steps.old steps.new
-        result }
-{
-    match word {
-        Word::Run { workers } => run_deck(crew.workers(workers), crew.alloc, source, sink, steps),
-        Word::Make { town } => write_made(crew.alloc, town, sink),
-        Word::Brief { town, workers } => {
-            write_made_brief(crew.workers(workers), crew.alloc, town, sink, steps)
+impl<'a, R: Threads + Sync, G: Gate> WordCall<'a, R, G> {
+    /// Does what the word asks for.
+    #[tactic(auto, using(crate::proofs::TaskLaws::no_steps))]
+    fn answer<S: Source, K: Sink, L: Ledger>(
+        &self,
+        source: &mut S,
+        sink: &mut K,
+        steps: &mut Steps<L>,
+    ) -> Status
+        requires { IsWord self.now.word }
+        ensures outcome { TaskOutcome (task self.now.word) (S.left source.old) (S.left source.new)
+            (S.last source.new)
+            (K.written sink.old) (K.written sink.new) result }
+        ensures read_fault { result ≡ Status.ReadFault
+            → Rose (S.faults source.old) (S.faults source.new) }
+        ensures write_fault { result ≡ Status.WriteFault
+            → Rose (K.faults sink.old) (K.faults sink.new) }
+        ensures untouched { IsWriting (task self.now.word) → source.new ≡ source.old }
+        ensures steps { WordSteps self.now.word (S.left source.old) (S.left source.new)
+            steps.old steps.new result }
+    {
+        match self.word {
+            Word::Run { workers } => {
+                run_deck(self.workers(workers), self.alloc, source, sink, steps)
+            }
+            Word::Make { town } => write_made(self.alloc, town, sink),
+            Word::Brief { town, workers } => {
+                let workers = self.workers(workers);
+                Brief { town, workers }.write(self.alloc, sink, steps)
+            }
+            Word::Counts => self.hosted(CountsWord).answer_whole(source, sink, steps),
+            Word::Equisat => self.hosted(EquisatWord).answer_whole(source, sink, steps),
+            Word::Audit => self.hosted(AuditWord).answer_whole(source, sink, steps),
+            Word::Version => write_version(self.alloc, sink),
+            Word::Scan { asked } => self.hosted(asked).answer_whole(source, sink, steps),
+            Word::Cycles { asked } => {
+                self.hosted(CyclesWord { asked })
+                    .answer_whole(source, sink, steps)
+            }
+            Word::Starts { asked } => self.hosted(asked).answer_whole(source, sink, steps),
         }
-        Word::Counts => answer_whole(crew.host(), &CountsWord, source, sink, steps),
-        Word::Equisat => answer_whole(crew.host(), &EquisatWord, source, sink, steps),
-        Word::Audit => answer_whole(crew.host(), &AuditWord, source, sink, steps),
-        Word::Version => write_version(crew.alloc, sink),
-        Word::Scan { asked } => answer_whole(crew.host(), &asked, source, sink, steps),
-        Word::Cycles { asked } => {
-            answer_whole(crew.host(), &CyclesWord { asked }, source, sink, steps)
-        }
-        Word::Starts { asked } => answer_whole(crew.host(), &asked, source, sink, steps),
     }
 }
 
@@ -175,5 +187,11 @@ pub fn transyt<R: Threads + Sync, S: Source, K: Sink, G: Gate, L: Ledger>(
     let Some(word) = word_of(words) else {
         return Status::BadWords;
     };
-    answer_word(&Crew { rt, alloc, gate }, word, source, sink, steps)
+    let call = WordCall {
+        rt,
+        alloc,
+        gate,
+        word,
+    };
+    call.answer(source, sink, steps)
 }

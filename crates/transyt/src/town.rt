@@ -28,6 +28,15 @@ pub(crate) struct Town {
     pub(crate) nodes: u32,
 }
 
+/// A climb on a town, and the workers that try its moves.
+#[derive(Drop)]
+pub(crate) struct Brief<'a, R, G> {
+    /// The town.
+    pub(crate) town: Town,
+    /// The workers.
+    pub(crate) workers: Workers<'a, R, G>,
+}
+
 /// Writes the deck text of a town. All memory is taken before the first line is written.
 pub(crate) fn write_made<K: Sink>(alloc: Global, town: Town, sink: &mut K) -> Status
     requires { IsTown town }
@@ -54,31 +63,33 @@ pub(crate) fn write_made<K: Sink>(alloc: Global, town: Town, sink: &mut K) -> St
     }
 }
 
-/// Climbs once on a town, with so many workers, and writes the line of it. All memory is taken before it is
-/// written.
-pub(crate) fn write_made_brief<R: Threads + Sync, K: Sink, G: Gate, L: Ledger>(
-    workers: Workers<'_, R, G>,
-    alloc: Global,
-    town: Town,
-    sink: &mut K,
-    steps: &mut Steps<L>,
-) -> Status
-    requires { IsTown town }
-    ensures outcome { TextOutcome (brief_text (made town.seed town.nodes)) false
-        (K.written sink.old) (K.written sink.new) result }
-    ensures later { K.faults sink.old ≤ K.faults sink.new }
-    ensures write_fault { result ≡ Status.WriteFault
-        → Rose (K.faults sink.old) (K.faults sink.new) }
-    ensures silent { result ≡ Status.NoMemory → sink.new ≡ sink.old }
-    ensures steps { workers.entry.count ≡ 1
-        → TextSteps (brief_steps (made town.seed town.nodes)) steps.old steps.new result }
-{
-    let Ok(net) = make_net(alloc, town.seed, town.nodes) else {
-        return Status::NoMemory;
-    };
-    match write_brief(workers, alloc, net, sink, steps) {
-        Ok(()) => Status::Done,
-        Err(Stop::Write) => Status::WriteFault,
-        Err(Stop::Memory) => Status::NoMemory,
+impl<'a, R: Threads + Sync, G: Gate> Brief<'a, R, G> {
+    /// Climbs once, and writes the line of the climb. All memory is taken before it is written.
+    pub(crate) fn write<K: Sink, L: Ledger>(
+        self,
+        alloc: Global,
+        sink: &mut K,
+        steps: &mut Steps<L>,
+    ) -> Status
+        requires { IsTown self.town }
+        ensures outcome { TextOutcome (brief_text (made self.entry.town.seed self.entry.town.nodes))
+            false (K.written sink.old) (K.written sink.new) result }
+        ensures later { K.faults sink.old ≤ K.faults sink.new }
+        ensures write_fault { result ≡ Status.WriteFault
+            → Rose (K.faults sink.old) (K.faults sink.new) }
+        ensures silent { result ≡ Status.NoMemory → sink.new ≡ sink.old }
+        ensures steps { self.entry.workers.count ≡ 1
+            → TextSteps (brief_steps (made self.entry.town.seed self.entry.town.nodes))
+            steps.old steps.new result }
+    {
+        let Brief { town, workers } = self;
+        let Ok(net) = make_net(alloc, town.seed, town.nodes) else {
+            return Status::NoMemory;
+        };
+        match write_brief(workers, alloc, net, sink, steps) {
+            Ok(()) => Status::Done,
+            Err(Stop::Write) => Status::WriteFault,
+            Err(Stop::Memory) => Status::NoMemory,
+        }
     }
 }

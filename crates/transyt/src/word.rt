@@ -1,10 +1,10 @@
 //! The words that the program takes.
 ghost use Rattle.std.specs.Prelude.{◌≡◌, ◌≤◌, ◌<◌, ◌∷◌, IfSome, map, string_bytes};
-ghost use Rattle.transyt_num.specs.Number.{number_of};
 ghost use Rattle.std.specs.Option.{option_map};
 ghost use Rattle.transyt_climbs.specs.Scan.{IsScan};
-ghost use Rattle.transyt.specs.Numbers.{workers_of, nodes_of, town_of, times_by, times_of, IsTown};
-ghost use Rattle.transyt.specs.Words.{alone, run_word, make_word, brief_by, brief_word, starts_by, starts_word, word_of, IsWord};
+ghost use Rattle.transyt_words.specs.Plans.{IsStarts};
+ghost use Rattle.transyt.specs.Numbers.{workers_of, nodes_of, town_of, starts_asked, times_of, IsTown};
+ghost use Rattle.transyt.specs.Words.{alone, run_word, make_word, brief_word, word_of, IsWord};
 
 use crate::town::Town;
 use transyt_climbs::ScanWord;
@@ -128,44 +128,23 @@ fn make_word(rest: &[String]) -> Option<Word>
     Some(Word::Make { town })
 }
 
-/// `brief seed nodes`, with so many workers.
-fn brief_by(town: Option<Town>, workers: Option<u32>) -> Option<Word>
-    requires town { IfSome town IsTown }
-    requires workers { IfSome workers (λ n. (1 ≤ n) × (n ≤ 8)) }
-    ensures word { result ≡ brief_by town workers }
-    ensures within { IfSome result IsWord }
-{
-    let town = town?;
-    let workers = workers?;
-    Some(Word::Brief { town, workers })
-}
-
 /// `brief seed nodes` and `brief seed nodes w`.
 fn brief_word(rest: &[String]) -> Option<Word>
     ensures word { result ≡ brief_word (map string_bytes rest.now) }
     ensures within { IfSome result IsWord }
 {
     match rest {
-        [seed, nodes] => brief_by(town_of(seed.as_bytes(), nodes.as_bytes()), Some(1)),
+        [seed, nodes] => {
+            let town = town_of(seed.as_bytes(), nodes.as_bytes())?;
+            Some(Word::Brief { town, workers: 1 })
+        }
         [seed, nodes, workers] => {
-            let workers = workers_of(workers.as_bytes());
-            brief_by(town_of(seed.as_bytes(), nodes.as_bytes()), workers)
+            let town = town_of(seed.as_bytes(), nodes.as_bytes())?;
+            let workers = workers_of(workers.as_bytes())?;
+            Some(Word::Brief { town, workers })
         }
         _ => None,
     }
-}
-
-/// The cycle times of these numbers, with so many workers.
-fn times_by(
-    workers: Option<u32>,
-    low: Option<u32>,
-    high: Option<u32>,
-    by: Option<u32>,
-) -> Option<ScanWord>
-    ensures value { result ≡ times_by workers low high by }
-    ensures within { IfSome result IsScan }
-{
-    ScanWord::new(workers?, low?, high?, by?)
 }
 
 /// `w low high by`.
@@ -176,11 +155,11 @@ fn times_of(rest: &[String]) -> Option<ScanWord>
     let [workers, low, high, by] = rest else {
         return None;
     };
-    let workers = workers_of(workers.as_bytes());
-    let low = read_number(low.as_bytes());
-    let high = read_number(high.as_bytes());
-    let by = read_number(by.as_bytes());
-    times_by(workers, low, high, by)
+    let workers = workers_of(workers.as_bytes())?;
+    let low = read_number(low.as_bytes())?;
+    let high = read_number(high.as_bytes())?;
+    let by = read_number(by.as_bytes())?;
+    ScanWord::new(workers, low, high, by)
 }
 
 /// `scan w low high by`.
@@ -201,54 +180,36 @@ fn cycles_word(rest: &[String]) -> Option<Word>
     Some(Word::Cycles { asked })
 }
 
-/// The starts of these numbers, with so many workers.
-fn starts_by(
-    workers: Option<u32>,
-    seed: Option<u32>,
-    count: Option<u32>,
-    from: Option<u32>,
-) -> Option<Word>
-    ensures word { result ≡ starts_by workers seed count from }
-    ensures within { IfSome result IsWord }
+/// `w seed count` and `w seed count from`.
+fn starts_asked(rest: &[String]) -> Option<StartsWord>
+    ensures value { result ≡ starts_asked (map string_bytes rest.now) }
+    ensures within { IfSome result IsStarts }
 {
-    let asked = StartsWord::new(workers?, seed?, count?, from?)?;
-    Some(Word::Starts { asked })
-}
-
-/// The starts of three words, beginning with the start of a number.
-fn starts_from(workers: &[u8], seed: &[u8], count: &[u8], from: Option<u32>) -> Option<Word>
-    ensures word { result
-        ≡ starts_by (workers_of workers.now) (number_of seed.now) (number_of count.now) from }
-    ensures within { IfSome result IsWord }
-{
-    starts_by(
-        workers_of(workers),
-        read_number(seed),
-        read_number(count),
-        from,
-    )
+    match rest {
+        [workers, seed, count] => {
+            let workers = workers_of(workers.as_bytes())?;
+            let seed = read_number(seed.as_bytes())?;
+            let count = read_number(count.as_bytes())?;
+            StartsWord::new(workers, seed, count, 0)
+        }
+        [workers, seed, count, from] => {
+            let workers = workers_of(workers.as_bytes())?;
+            let seed = read_number(seed.as_bytes())?;
+            let count = read_number(count.as_bytes())?;
+            let from = read_number(from.as_bytes())?;
+            StartsWord::new(workers, seed, count, from)
+        }
+        _ => None,
+    }
 }
 
 /// `starts w seed count` and `starts w seed count from`.
 fn starts_word(rest: &[String]) -> Option<Word>
-    ensures word { result ≡ starts_word (map string_bytes rest.now) }
+    ensures word { result ≡ option_map Word.Starts (starts_asked (map string_bytes rest.now)) }
     ensures within { IfSome result IsWord }
 {
-    match rest {
-        [workers, seed, count] => {
-            starts_from(
-                workers.as_bytes(),
-                seed.as_bytes(),
-                count.as_bytes(),
-                Some(0),
-            )
-        }
-        [workers, seed, count, from] => {
-            let from = read_number(from.as_bytes());
-            starts_from(workers.as_bytes(), seed.as_bytes(), count.as_bytes(), from)
-        }
-        _ => None,
-    }
+    let asked = starts_asked(rest)?;
+    Some(Word::Starts { asked })
 }
 
 /// The task of a word, by what stands after it.

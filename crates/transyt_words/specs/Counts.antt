@@ -3,13 +3,13 @@ use Rattle.std.specs.Prelude.{ℕ, ◌++◌, List, [], ◌∷◌, codes, length,
 use Rattle.std.specs.List.{flat_map}
 use Rattle.transyt_syntax.specs.declared.code.Code.{Code}
 use Rattle.transyt_syntax.specs.Codes.{number}
-use Rattle.transyt_net.specs.Parts.{Network}
 use Rattle.transyt_net.specs.declared.edit.Edit.{Edit}
 use Rattle.transyt_net.specs.declared.edit.Edit.TheVariants as edit
 use Rattle.transyt_counts.specs.Counts.{CountsValue, counts_of}
 use Rattle.transyt_counts.specs.declared.counts.CountStop.{CountStop}
 use Rattle.transyt_counts.specs.declared.counts.CountStop.TheVariants as stop
 use Rattle.transyt_words.specs.Answer.{AnswerValue, done, refusal, LineValue, line_of}
+use Rattle.transyt_words.specs.Case.{CaseValue}
 
 -- a row is refused: its number and the code
 abbrev pub refused_row : ℕ → Code → LineValue
@@ -35,6 +35,6 @@ answer_of_counts (Ok c) = done (counts_lines c)
 answer_of_counts (Err (stop.Refused row code)) = refusal (refused_row row code ∷ [])
 answer_of_counts (Err stop.Memory) = refusal []
 
--- the answer to a network and the table after its deck
-abbrev pub counts_answer : Network → ℕ → List ℕ → AnswerValue
-counts_answer net line table = answer_of_counts (counts_of net table)
+-- the answer to a case
+abbrev pub counts_answer : CaseValue → AnswerValue
+counts_answer case = answer_of_counts (counts_of case.net case.table)

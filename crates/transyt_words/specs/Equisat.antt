@@ -5,6 +5,7 @@ use Rattle.transyt_net.specs.Parts.{Network, node_of}
 use Rattle.transyt_equisat.specs.declared.greens.Share.{Share}
 use Rattle.transyt_equisat.specs.Balance.{GreensValue, balance}
 use Rattle.transyt_words.specs.Answer.{AnswerValue, done, LineValue, line_of}
+use Rattle.transyt_words.specs.Case.{CaseValue}
 
 -- a stage: its number from 1, its change, its green, and the green that it needs, all in steps
 abbrev pub stage_line : ℕ → Share → LineValue
@@ -35,6 +36,6 @@ end_line = line_of (codes "END EQUISAT") []
 abbrev pub equisat_lines : Network → List LineValue
 equisat_lines net = flat_map (lines_at net) (range_with_len 0 (length net.nodes)) ++ end_line ∷ []
 
--- the answer to a network; what stands after its deck isn't looked at
-abbrev pub equisat_answer : Network → ℕ → List ℕ → AnswerValue
-equisat_answer net line table = done (equisat_lines net)
+-- the answer to a case, whose table isn't looked at
+abbrev pub equisat_answer : CaseValue → AnswerValue
+equisat_answer case = done (equisat_lines case.net)

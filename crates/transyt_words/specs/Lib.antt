@@ -1,6 +1,7 @@
 -- The definitions of the crate.
 pub mod Whole
 pub mod Answer
+pub mod Case
 pub mod Plans
 pub mod Audit
 pub mod Counts

@@ -9,6 +9,7 @@ use Rattle.transyt_climbs.specs.Climbs.{best, NetworkListValue, end_of, table}
 use Rattle.transyt_words.specs.declared.table.Numbered.{Numbered}
 use Rattle.transyt_words.specs.declared.table.Numbered.TheVariants.{Starts, Cycles}
 use Rattle.transyt_words.specs.Answer.{LineValue, line_of, AnswerValue, with_deck}
+use Rattle.transyt_words.specs.Case.{CaseValue}
 use Rattle.transyt_net.specs.Parts.{Network}
 use Rattle.transyt_climbs.specs.declared.times.CycleTimes.{CycleTimes}
 use Rattle.transyt_climbs.specs.declared.networks.NetworkAt.{NetworkAt}
@@ -101,10 +102,10 @@ answer_by by asked net rows = with_deck (table_lines by rows) (deck_of asked net
 abbrev pub plans_answer : Numbered → NetworkListValue → Network → AnswerValue
 plans_answer by asked net = answer_by by asked net (table asked net)
 
--- the answer of `starts`, whatever the number of workers; what stands after the deck isn't looked at
-abbrev pub starts_answer : ℕ → ℕ → ℕ → Network → ℕ → List ℕ → AnswerValue
-starts_answer seed count from net line after = plans_answer Starts (starts seed count from) net
+-- the answer of `starts` to a case, whatever the number of workers; the table isn't looked at
+abbrev pub starts_answer : ℕ → ℕ → ℕ → CaseValue → AnswerValue
+starts_answer seed count from case = plans_answer Starts (starts seed count from) case.net
 
 -- the same of `cycles`
-abbrev pub cycles_answer : CycleTimes → Network → ℕ → List ℕ → AnswerValue
-cycles_answer times net line after = plans_answer Cycles (cycles times) net
+abbrev pub cycles_answer : CycleTimes → CaseValue → AnswerValue
+cycles_answer times case = plans_answer Cycles (cycles times) case.net

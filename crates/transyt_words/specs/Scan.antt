@@ -1,10 +1,10 @@
 -- The answer of `scan` to a network.
 use Rattle.std.specs.Prelude.{ℕ, ◌++◌, List, [], ◌∷◌, codes, map, if◌then◌else◌}
-use Rattle.transyt_net.specs.Parts.{Network}
 use Rattle.transyt_climbs.specs.declared.times.CycleTimes.{CycleTimes}
 use Rattle.transyt_climbs.specs.declared.scan_row.ScanRow.{ScanRow}
 use Rattle.transyt_climbs.specs.Scan.{table, best}
 use Rattle.transyt_words.specs.Answer.{AnswerValue, done, LineValue, line_of}
+use Rattle.transyt_words.specs.Case.{CaseValue}
 
 -- the line of a row: its cycle time, the index before the climb, the steps, the places looked at, the index after it
 abbrev pub row_line : ScanRow → LineValue
@@ -21,6 +21,6 @@ best_line row = line_of (codes "BEST # #") (row.cycle ∷ row.to ∷ [])
 abbrev pub table_lines : List ScanRow → List LineValue
 table_lines rows = map row_line rows ++ best_line (best rows) ∷ []
 
--- the answer to a network, whatever the number of workers; what stands after its deck isn't looked at
-abbrev pub scan_answer : CycleTimes → Network → ℕ → List ℕ → AnswerValue
-scan_answer times net line after = done (table_lines (table net times))
+-- the answer to a case, whatever the number of workers; the table isn't looked at
+abbrev pub scan_answer : CycleTimes → CaseValue → AnswerValue
+scan_answer times case = done (table_lines (table case.net times))

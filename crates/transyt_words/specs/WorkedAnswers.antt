@@ -11,6 +11,7 @@ use Rattle.transyt_counts.specs.Counts.{CountsValue}
 use Rattle.transyt_counts.specs.declared.counts.CountStop.{CountStop}
 use Rattle.transyt_counts.specs.declared.counts.CountStop.TheVariants as stop
 use Rattle.transyt_words.specs.Answer.{AnswerValue, done, refusal, LineValue, line_of}
+use Rattle.transyt_words.specs.Case.{CaseValue}
 use Rattle.transyt_words.specs.Counts.{counted_line}
 
 -- the command of an entry flow, that of a fed flow, and the line of a refused row
@@ -47,11 +48,15 @@ balance_lines =
     ∷ stage 2 14 8 8 ∷ line_of (codes "END EQUISAT") [] ∷ []
 
 -- an answer that tells the number of END's line and how many bytes stand after it, and steps that do so
-abbrev pub said_rest : Network → ℕ → List ℕ → AnswerValue
-said_rest net number rest = done (counted_line number (length rest) ∷ [])
+abbrev pub said_rest : CaseValue → AnswerValue
+said_rest case = done (counted_line case.line (length case.table) ∷ [])
 
-abbrev pub steps_of_rest : Network → ℕ → List ℕ → ℕ
-steps_of_rest net number rest = number * 100 + length rest
+abbrev pub steps_of_rest : CaseValue → ℕ
+steps_of_rest case = case.line * 100 + length case.table
+
+-- a network with a table of one byte after END, line 17
+abbrev pub at_seventeen : Network → CaseValue
+at_seventeen net = record { net = net; line = 17; table = 5 ∷ [] }
 
 -- a deck that ends at line 17, after three bytes
 abbrev pub cut_after_three : Result Cut CardStop

@@ -4,13 +4,13 @@ ghost use Rattle.std.specs.Prelude.{◌≡◌};
 ghost use Rattle.transyt_words.specs.Audit.{audit_answer, audit_line, audit_most};
 
 use crate::answer::Answer;
-use crate::deck_word::{DeckWord, Host};
+use crate::case::Case;
+use crate::deck_word::DeckWord;
 use crate::line::{AnswerLine, one};
 use std::alloc::AllocError;
 use std::sync::ledger::Ledger;
 use std::thread::Threads;
 use transyt_audit::{Verdict, audit};
-use transyt_deck::Cut;
 use transyt_io::Sink;
 use transyt_sentences::on_audit;
 use transyt_steps::Steps;
@@ -43,14 +43,12 @@ impl DeckWord for AuditWord {
 
     fn judge<R: Threads + Sync, K: Sink, L: Ledger>(
         &self,
-        host: Host<'_, R>,
-        cut: &Cut,
-        table: &[u8],
+        case: &Case<'_, R>,
         _sink: &mut K,
         steps: &mut Steps<L>,
     ) -> Result<Answer, AllocError> {
-        let verdict = audit(host.alloc, &cut.net, table, cut.line, steps)?;
-        let answer = Answer::done(one(host.alloc, audit_line(verdict))?);
+        let verdict = audit(case.alloc, &case.cut.net, case.table, case.cut.line, steps)?;
+        let answer = Answer::done(one(case.alloc, audit_line(verdict))?);
         match verdict {
             Verdict::Yes { .. } => Ok(answer),
             Verdict::No { line, code } => Ok(answer.with_remark(on_audit(line, code))),

@@ -4,13 +4,13 @@ ghost use Rattle.std.specs.Prelude.{◌≡◌, ◌++◌, IfOk, OnOk};
 ghost use Rattle.transyt_words.specs.Counts.{command_lines, counted_line, counts_answer, counts_lines, refused_row};
 
 use crate::answer::Answer;
-use crate::deck_word::{DeckWord, Host};
+use crate::case::Case;
+use crate::deck_word::DeckWord;
 use crate::line::{AnswerLine, add, one};
 use std::alloc::{AllocError, Global};
 use std::sync::ledger::Ledger;
 use std::thread::Threads;
 use transyt_counts::{CountStop, Counts, read_counts};
-use transyt_deck::Cut;
 use transyt_io::Sink;
 use transyt_net::Edit;
 use transyt_sentences::on_row;
@@ -70,20 +70,18 @@ impl DeckWord for CountsWord {
 
     ghost answer = { λ self. counts_answer };
 
-    ghost most = { λ self net line table. 0 };
+    ghost most = { λ self case. 0 };
 
     fn judge<R: Threads + Sync, K: Sink, L: Ledger>(
         &self,
-        host: Host<'_, R>,
-        cut: &Cut,
-        table: &[u8],
+        case: &Case<'_, R>,
         _sink: &mut K,
         _steps: &mut Steps<L>,
     ) -> Result<Answer, AllocError> {
-        match read_counts(host.alloc, table, &cut.net) {
-            Ok(counts) => Ok(Answer::done(counts_lines(host.alloc, &counts)?)),
+        match read_counts(case.alloc, case.table, &case.cut.net) {
+            Ok(counts) => Ok(Answer::done(counts_lines(case.alloc, &counts)?)),
             Err(CountStop::Refused { row, code }) => {
-                let lines = one(host.alloc, refused_row(row, code))?;
+                let lines = one(case.alloc, refused_row(row, code))?;
                 Ok(Answer::refusal(lines).with_remark(on_row(row, code)))
             }
             Err(CountStop::Memory) => Err(AllocError),

@@ -4,13 +4,13 @@ ghost use Rattle.std.specs.Prelude.{◌≡◌};
 ghost use Rattle.transyt_words.specs.Plans.{network_at};
 
 use crate::answer::Answer;
-use crate::deck_word::{DeckWord, Host};
-use crate::table::{Numbered, TableList, answer_net};
+use crate::case::Case;
+use crate::deck_word::DeckWord;
+use crate::table::{Numbered, TableList, answer_case};
 use std::alloc::{AllocError, Global};
 use std::sync::ledger::Ledger;
 use std::thread::Threads;
 use transyt_climbs::{NetworkAt, NetworkList, ScanList, ScanWord};
-use transyt_deck::Cut;
 use transyt_io::Sink;
 use transyt_net::Net;
 use transyt_steps::Steps;
@@ -81,17 +81,15 @@ impl DeckWord for CyclesWord {
 
     ghost answer = { λ self. cycles_answer self.asked.times };
 
-    ghost most = { λ self net line table. 0 };
+    ghost most = { λ self case. 0 };
 
     fn judge<R: Threads + Sync, K: Sink, L: Ledger>(
         &self,
-        host: Host<'_, R>,
-        cut: &Cut,
-        _table: &[u8],
+        case: &Case<'_, R>,
         sink: &mut K,
         _steps: &mut Steps<L>,
     ) -> Result<Answer, AllocError> {
         let scan = ScanList { asked: self.asked };
-        answer_net(host, &CyclesList { scan }, &cut.net, sink)
+        answer_case(case, &CyclesList { scan }, sink)
     }
 }

@@ -5,12 +5,12 @@ ghost use Rattle.transyt_words.specs.Equisat.{end_line, equisat_answer, equisat_
 ghost use Rattle.transyt_words.specs.Equisat.{share_lines, stage_line};
 
 use crate::answer::Answer;
-use crate::deck_word::{DeckWord, Host};
+use crate::case::Case;
+use crate::deck_word::DeckWord;
 use crate::line::{AnswerLine, add};
 use std::alloc::{AllocError, Global};
 use std::sync::ledger::Ledger;
 use std::thread::Threads;
-use transyt_deck::Cut;
 use transyt_equisat::{Greens, Share, balance};
 use transyt_io::Sink;
 use transyt_net::Net;
@@ -103,16 +103,14 @@ impl DeckWord for EquisatWord {
 
     ghost answer = { λ self. equisat_answer };
 
-    ghost most = { λ self net line table. 0 };
+    ghost most = { λ self case. 0 };
 
     fn judge<R: Threads + Sync, K: Sink, L: Ledger>(
         &self,
-        host: Host<'_, R>,
-        cut: &Cut,
-        _table: &[u8],
+        case: &Case<'_, R>,
         _sink: &mut K,
         _steps: &mut Steps<L>,
     ) -> Result<Answer, AllocError> {
-        Ok(Answer::done(equisat_lines(host.alloc, &cut.net)?))
+        Ok(Answer::done(equisat_lines(case.alloc, &case.cut.net)?))
     }
 }

@@ -22,7 +22,7 @@ ghost use Rattle.transyt_words.specs.Audit.{audit_line, audit_most};
 ghost use Rattle.transyt_words.specs.Counts.{answer_of_counts, counted_line};
 ghost use Rattle.transyt_words.specs.Equisat.{equisat_answer};
 ghost use Rattle.transyt_words.specs.Scan.{scan_answer, table_lines};
-ghost use Rattle.transyt_words.specs.WorkedAnswers.{balance_lines, cut_after_three, idle_lines, refused_at_seven, said_rest};
+ghost use Rattle.transyt_words.specs.WorkedAnswers.{at_seventeen, balance_lines, cut_after_three, idle_lines, refused_at_seven, said_rest};
 ghost use Rattle.transyt_words.specs.WorkedAnswers.{scan_lines, steps_of_rest, worked_tables};
 ghost use Rattle.transyt_words.specs.WorkedPlans.{no_cycles, starts_in_range, starts_out_of_range, three_cycles, three_starts};
 ghost use Rattle.transyt_words.specs.WorkedPlans.{idle_start, later_starts};
@@ -70,14 +70,14 @@ pub fn worked_told()
 pub fn worked_answers()
     ensures counts { map (λ row. answer_of_counts row.0) worked_tables
         ≡ map (λ row. row.1) worked_tables }
-    ensures balance { equisat_answer worked_town 17 (5 ∷ []) ≡ done balance_lines }
+    ensures balance { equisat_answer (at_seventeen worked_town) ≡ done balance_lines }
     ensures yes { audit_line (Verdict.Yes 24 1352922)
         ≡ line_of (codes "AUDIT YES # INDEX #") (24 ∷ 1352922 ∷ []) }
     ensures no { audit_line (Verdict.No 31 Code.OtherLine)
         ≡ line_of (codes "AUDIT NO # #") (31 ∷ 28 ∷ []) }
-    ensures audit_steps { audit_most town 17 (5 ∷ []) ≡ 387 }
+    ensures audit_steps { audit_most (at_seventeen town) ≡ 387 }
     ensures scan { table_lines three_rows ≡ scan_lines }
-    ensures scan_answer { scan_answer from_44 idle 17 (5 ∷ []) ≡ done idle_lines }
+    ensures scan_answer { scan_answer from_44 (at_seventeen idle) ≡ done idle_lines }
     ensures after_deck { answer_of_cut said_rest (2 ∷ 3 ∷ 5 ∷ 7 ∷ 11 ∷ []) cut_after_three
         ≡ done (counted_line 17 2 ∷ []) }
     ensures refused { answer_of_cut said_rest (2 ∷ 3 ∷ 5 ∷ 7 ∷ 11 ∷ []) refused_at_seven

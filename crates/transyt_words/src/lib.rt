@@ -1,9 +1,10 @@
 //! The words that take their input whole: a deck, and what stands after it.
 //!
-//! A word is one module: what it asks for, and the lines of its answer. It is a [`DeckWord`], which answers a network
-//! and the bytes after its deck by an [`Answer`]: lines, each an [`AnswerLine`] of a form and its numbers, and a
-//! network whose deck text comes after them, if there is one. [`judge_deck`] answers an input by a word, a refused
-//! deck by the line of its card, and [`answer_whole`] takes a source to its end and writes the answer to it.
+//! A word is one module: what it asks for, and the lines of its answer. It is a [`DeckWord`], which answers a [`Case`],
+//! a deck and the table after it, by an [`Answer`]: lines, each an [`AnswerLine`] of a form and its numbers, and a
+//! network whose deck text comes after them, if there is one. A [`HostedWord`] has the word and what serves it: its
+//! `judge_deck` answers an input, a refused deck by the line of its card, and its `answer_whole` takes a source to its
+//! end and writes the answer to it.
 //!
 //! A contract sees the answer to an input as `answer_after` of `specs/Whole`, and what is reported of it as
 //! `of_whole` of `specs/Answer`, a `Reporting` by which nothing is written and nothing ends the run before the input
@@ -18,10 +19,12 @@
 
 mod answer;
 mod audit;
+mod case;
 mod counts;
 mod cycles;
 mod deck_word;
 mod equisat;
+mod hosted;
 mod laws;
 mod line;
 mod scan;
@@ -31,13 +34,15 @@ mod whole;
 
 pub use answer::Answer;
 pub use audit::AuditWord;
+pub use case::Case;
 pub use counts::CountsWord;
 pub use cycles::CyclesWord;
-pub use deck_word::{DeckWord, Host, judge_deck};
+pub use deck_word::DeckWord;
 pub use equisat::EquisatWord;
+pub use hosted::HostedWord;
 pub use laws::{
     starts_in_parts, worked_answers, worked_asked, worked_table, worked_texts, worked_told,
 };
 pub use line::AnswerLine;
 pub use starts::StartsWord;
-pub use whole::{answer_whole, say};
+pub use whole::say;

@@ -4,13 +4,13 @@ ghost use Rattle.std.specs.Prelude.{◌≡◌, ◌<◌, length, IfOk};
 ghost use Rattle.transyt_words.specs.Scan.{best_line, row_line, scan_answer, table_lines};
 
 use crate::answer::Answer;
-use crate::deck_word::{DeckWord, Host};
+use crate::case::Case;
+use crate::deck_word::DeckWord;
 use crate::line::AnswerLine;
 use std::alloc::{AllocError, Global};
 use std::sync::ledger::Ledger;
 use std::thread::Threads;
 use transyt_climbs::{IdleGate, ScanList, ScanRow, ScanWord, Work, least, scan_told};
-use transyt_deck::Cut;
 use transyt_io::Sink;
 use transyt_sentences::on_cycle_times;
 use transyt_steps::Steps;
@@ -60,24 +60,22 @@ impl DeckWord for ScanWord {
 
     ghost answer = { λ self. scan_answer self.times };
 
-    ghost most = { λ self net line table. 0 };
+    ghost most = { λ self case. 0 };
 
     fn judge<R: Threads + Sync, K: Sink, L: Ledger>(
         &self,
-        host: Host<'_, R>,
-        cut: &Cut,
-        _table: &[u8],
+        case: &Case<'_, R>,
         sink: &mut K,
         _steps: &mut Steps<L>,
     ) -> Result<Answer, AllocError> {
         let work = Work {
-            alloc: host.alloc,
+            alloc: case.alloc,
             asked: &ScanList { asked: *self },
-            net: &cut.net,
+            net: &case.cut.net,
             gate: &IdleGate,
         };
-        let rows = scan_told(host.rt, &work, sink)?;
-        let lines = table_lines(host.alloc, &rows)?;
+        let rows = scan_told(case.rt, &work, sink)?;
+        let lines = table_lines(case.alloc, &rows)?;
         Ok(Answer::done(lines).with_remark(on_cycle_times()))
     }
 }

@@ -4,13 +4,13 @@ ghost use Rattle.std.specs.Prelude.{◌≡◌, IfSome};
 ghost use Rattle.transyt_words.specs.Plans.{IsStarts, starts_of};
 
 use crate::answer::Answer;
-use crate::deck_word::{DeckWord, Host};
-use crate::table::{Numbered, TableList, answer_net};
+use crate::case::Case;
+use crate::deck_word::DeckWord;
+use crate::table::{Numbered, TableList, answer_case};
 use std::alloc::{AllocError, Global};
 use std::sync::ledger::Ledger;
 use std::thread::Threads;
 use transyt_climbs::{NetworkAt, NetworkList};
-use transyt_deck::Cut;
 use transyt_io::Sink;
 use transyt_net::Net;
 use transyt_steps::Steps;
@@ -98,16 +98,14 @@ impl DeckWord for StartsWord {
 
     ghost answer = { λ self. starts_answer self.seed self.count self.from };
 
-    ghost most = { λ self net line table. 0 };
+    ghost most = { λ self case. 0 };
 
     fn judge<R: Threads + Sync, K: Sink, L: Ledger>(
         &self,
-        host: Host<'_, R>,
-        cut: &Cut,
-        _table: &[u8],
+        case: &Case<'_, R>,
         sink: &mut K,
         _steps: &mut Steps<L>,
     ) -> Result<Answer, AllocError> {
-        answer_net(host, &StartsList { asked: *self }, &cut.net, sink)
+        answer_case(case, &StartsList { asked: *self }, sink)
     }
 }

@@ -6,7 +6,7 @@ ghost use Rattle.transyt_words.specs.Whole.{DeckReadsBack, ReadsBack};
 ghost use Rattle.transyt_words.specs.declared.table.Numbered.{Numbered};
 
 use crate::answer::Answer;
-use crate::deck_word::Host;
+use crate::case::Case;
 use crate::line::AnswerLine;
 use std::alloc::{AllocError, Global};
 use std::thread::Threads;
@@ -135,29 +135,27 @@ fn deck_of<P: NetworkList>(
     Ok(read_back(end))
 }
 
-/// The answer to a network: the lines of its table, and the deck text of the network at the end of the best climb. The
+/// The answer to a case: the lines of its table, and the deck text of the network at the end of the best climb. The
 /// sink is told how far the climbs are.
-pub(crate) fn answer_net<R: Threads + Sync, W: TableList, K: Sink>(
-    host: Host<'_, R>,
+pub(crate) fn answer_case<R: Threads + Sync, W: TableList, K: Sink>(
+    case: &Case<'_, R>,
     asked: &W,
-    net: &Net,
     sink: &mut K,
 ) -> Result<Answer, AllocError>
     ensures answer { IfOk result
-        (λ found. found ≡ plans_answer (W.kind asked.now) (W.list asked.now) net.now) }
+        (λ found. found ≡ plans_answer (W.kind asked.now) (W.list asked.now) case.now.net) }
     ensures reads_back { IfOk result ReadsBack }
     ensures written { K.written sink.new ≡ K.written sink.old }
     ensures faults { K.faults sink.new ≡ K.faults sink.old }
 {
-    let alloc = host.alloc;
     let work = Work {
-        alloc,
+        alloc: case.alloc,
         asked,
-        net,
+        net: &case.cut.net,
         gate: &IdleGate,
     };
-    let rows = climb_networks(host.rt, &work, sink)?;
-    let lines = table_lines(alloc, asked.numbered(), &rows)?;
+    let rows = climb_networks(case.rt, &work, sink)?;
+    let lines = table_lines(case.alloc, asked.numbered(), &rows)?;
     let deck = deck_of(&work, best(&rows))?;
     Ok(Answer::with_deck(lines, deck))
 }

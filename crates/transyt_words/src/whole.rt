@@ -9,7 +9,8 @@ ghost use Rattle.transyt_words.specs.Whole.{answer_after, most_after, IsSilent, 
 ghost use Rattle.transyt_words.specs.Answer.{answer_text, deck_after, of_whole};
 
 use crate::answer::Answer;
-use crate::deck_word::{DeckWord, Host, judge_deck};
+use crate::deck_word::DeckWord;
+use crate::hosted::HostedWord;
 use crate::line::print_lines;
 use std::alloc::{AllocError, Global};
 use std::sync::ledger::Ledger;
@@ -82,46 +83,47 @@ impl Buffers {
     }
 }
 
-/// Takes a source whole, and answers by a word what it gave. The memory for reading and writing is taken before the
-/// first read, and all other memory before the first line is written.
-pub fn answer_whole<R: Threads + Sync, W: DeckWord, S: Source, K: Sink, L: Ledger>(
-    host: Host<'_, R>,
-    word: &W,
-    source: &mut S,
-    sink: &mut K,
-    steps: &mut Steps<L>,
-) -> Status
-    requires { W.fits word.now }
-    ensures outcome { Outcome (of_whole (answer_after (W.answer word.now)))
-        (S.left source.old) (S.left source.new) (S.last source.new)
-        (K.written sink.old) (K.written sink.new) result }
-    ensures source_later { S.faults source.old ≤ S.faults source.new }
-    ensures sink_later { K.faults sink.old ≤ K.faults sink.new }
-    ensures read_fault { result ≡ Status.ReadFault
-        → Rose (S.faults source.old) (S.faults source.new) }
-    ensures write_fault { result ≡ Status.WriteFault
-        → Rose (K.faults sink.old) (K.faults sink.new) }
-    // nothing is written before the input is judged, and the sink isn't touched before it was read
-    ensures silent { IsSilent result → (K.written sink.new ≡ K.written sink.old)
-        × (K.faults sink.new ≡ K.faults sink.old) }
-    ensures unread { (result ≡ Status.ReadFault) ⊎ (result ≡ Status.TooLong) → sink.new ≡ sink.old }
-    ensures steps { StepsWithin (most_after (W.most word.now))
-        (S.left source.old) (S.left source.new) steps.old steps.new }
-    ensures more_steps { steps.old ≤ steps.new }
-{
-    let Ok(mut buffers) = Buffers::open(host.alloc) else {
-        return Status::NoMemory;
-    };
-    if let Err(stop) = buffers.intake.take_all(source) {
+impl<'a, R: Threads + Sync, W: DeckWord> HostedWord<'a, R, W> {
+    /// Takes a source whole, and answers by a word what it gave. The memory for reading and writing is taken before the
+    /// first read, and all other memory before the first line is written.
+    pub fn answer_whole<S: Source, K: Sink, L: Ledger>(
+        &self,
+        source: &mut S,
+        sink: &mut K,
+        steps: &mut Steps<L>,
+    ) -> Status
+        requires { W.fits self.now.word }
+        ensures outcome { Outcome (of_whole (answer_after (W.answer self.now.word)))
+            (S.left source.old) (S.left source.new) (S.last source.new)
+            (K.written sink.old) (K.written sink.new) result }
+        ensures source_later { S.faults source.old ≤ S.faults source.new }
+        ensures sink_later { K.faults sink.old ≤ K.faults sink.new }
+        ensures read_fault { result ≡ Status.ReadFault
+            → Rose (S.faults source.old) (S.faults source.new) }
+        ensures write_fault { result ≡ Status.WriteFault
+            → Rose (K.faults sink.old) (K.faults sink.new) }
+        // nothing is written before the input is judged, and the sink isn't touched before it was read
+        ensures silent { IsSilent result → (K.written sink.new ≡ K.written sink.old)
+            × (K.faults sink.new ≡ K.faults sink.old) }
+        ensures unread { (result ≡ Status.ReadFault) ⊎ (result ≡ Status.TooLong) → sink.new ≡ sink.old }
+        ensures steps { StepsWithin (most_after (W.most self.now.word))
+            (S.left source.old) (S.left source.new) steps.old steps.new }
+        ensures more_steps { steps.old ≤ steps.new }
+    {
+        let Ok(mut buffers) = Buffers::open(self.alloc) else {
+            return Status::NoMemory;
+        };
+        if let Err(stop) = buffers.intake.take_all(source) {
+            drop(buffers);
+            return stopped_reading(stop);
+        }
+        let Ok(found) = self.judge_deck(buffers.intake.bytes(), sink, steps) else {
+            drop(buffers);
+            return Status::NoMemory;
+        };
+        let status = say(&found, &mut buffers.line, sink);
+        drop(found);
         drop(buffers);
-        return stopped_reading(stop);
+        status
     }
-    let Ok(found) = judge_deck(host, word, buffers.intake.bytes(), sink, steps) else {
-        drop(buffers);
-        return Status::NoMemory;
-    };
-    let status = say(&found, &mut buffers.line, sink);
-    drop(found);
-    drop(buffers);
-    status
 }

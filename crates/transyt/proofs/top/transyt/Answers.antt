@@ -13,7 +13,7 @@ returns-clause-headline g c = λ run memory no_read no_write.
     let word = c.in-Some.word in
     let is = sym c.in-Some.is ∙ c.word_of.ensures.word in
     let P : Option Word → Type 0 = λ o. IsRun o in
-    let all = c.answer_word.ensures in
+    let all = c.answer.ensures in
     run_headline word (subst P (sym is) run)
     (task_headline _ _ _ _ _ memory (λ e. no_read (all.read_fault e)) (λ e. no_write (all.write_fault e)) (task word)
     (word_settled word) all.outcome)
@@ -22,7 +22,7 @@ returns-clause-headline g c = λ run memory no_read no_write.
 pub returns-clause-told : goal.returns-clause-told
 returns-clause-told g c = λ memory no_read no_write.
     let word = c.in-Some.word in
-    let all = c.answer_word.ensures in
+    let all = c.answer.ensures in
     of_words (λ asked. TaskHeadline asked _ _ _ _) (sym c.in-Some.is ∙ c.word_of.ensures.word)
     (task_headline _ _ _ _ _ memory (λ e. no_read (all.read_fault e)) (λ e. no_write (all.write_fault e)) (task word)
     (word_settled word) all.outcome)
@@ -31,7 +31,7 @@ returns-clause-told g c = λ memory no_read no_write.
 pub returns-clause-complete : goal.returns-clause-complete
 returns-clause-complete g c = λ memory no_read no_write.
     let word = c.in-Some.word in
-    let all = c.answer_word.ensures in
+    let all = c.answer.ensures in
     of_words (λ asked. TaskComplete asked _ _) (sym c.in-Some.is ∙ c.word_of.ensures.word)
     (task_complete _ _ _ _ _ memory (λ e. no_read (all.read_fault e)) (λ e. no_write (all.write_fault e)) (task word)
     (word_settled word) all.outcome)
@@ -40,7 +40,7 @@ returns-clause-complete g c = λ memory no_read no_write.
 pub returns-clause-too_long : goal.returns-clause-too_long
 returns-clause-too_long g c = λ memory no_read no_write.
     let word = c.in-Some.word in
-    let all = c.answer_word.ensures in
+    let all = c.answer.ensures in
     of_words (λ asked. TaskTooLong asked _ _) (sym c.in-Some.is ∙ c.word_of.ensures.word)
     (task_too_long _ _ _ _ _ memory (λ e. no_read (all.read_fault e)) (λ e. no_write (all.write_fault e)) (task word)
     (word_settled word) all.outcome)

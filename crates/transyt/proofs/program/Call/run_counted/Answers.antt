@@ -1,5 +1,5 @@
 -- The clauses of the top call as one record.
-use Rattle.transyt.proofs.program.run_words.Goals as goal
+use Rattle.transyt.proofs.program.Call.run_counted.Goals as goal
 
 -- the meaning of its status
 pub returns : goal.returns

@@ -5,12 +5,12 @@ use Rattle.transyt_outcome.specs.Outcome.{read_stop_status}
 use Rattle.transyt_words.specs.Whole.{answer_after, most_after}
 use Rattle.transyt_words.proofs.OutcomeLaws.{no_memory, no_memory_after, no_steps, rose_after, told_after, steps_of, stopped_outcome, stopped_read, stopped_write}
 use Rattle.transyt_words.proofs.OutcomeLaws.{told_outcome, told_read, told_spoken, unread_silent}
-use Rattle.transyt_words.proofs.whole.answer_whole.Goals as goal
+use Rattle.transyt_words.proofs.hosted.HostedWord.answer_whole.Goals as goal
 
 pub returns-clause-outcome : goal.returns-clause-outcome
 returns-clause-outcome g c =
     let all = c.in_default-take_all.ensures.all in
-    told_outcome (answer_after (g.W.DeckWord.answer c.args.word.now)) _ _ all.taken _ _ _ _ _ _ all.takes
+    told_outcome (answer_after (g.W.DeckWord.answer c.args.self.now.word)) _ _ all.taken _ _ _ _ _ _ all.takes
     (c.bytes.ensures ∙ all.says.0) all.says.1 all.says.2 c.in-Ok-judge_deck.ensures.answer
     (told_after _ _ _ _ _ c.in-Ok-judge_deck.ensures.written c.say-status.ensures.told)
 
@@ -25,7 +25,7 @@ returns-in_default-clause-steps g c = no_steps _ _ _ [] _ (takes_nothing (g.S.So
 pub returns-in-Err-clause-outcome : goal.returns-in-Err-clause-outcome
 returns-in-Err-clause-outcome g c =
     let all = c.in-Err.ensures.all in
-    stopped_outcome (answer_after (g.W.DeckWord.answer c.args.word.now)) _ _ _ _ all.taken c.in-Err.stop
+    stopped_outcome (answer_after (g.W.DeckWord.answer c.args.self.now.word)) _ _ _ _ all.taken c.in-Err.stop
     c.stopped_reading.result all.takes all.says (λ is. c.stopped_reading.ensures ∙ ap read_stop_status is) (λ is. c.stopped_reading.ensures ∙ ap read_stop_status is)
 
 pub returns-in-Err-clause-steps : goal.returns-in-Err-clause-steps
@@ -48,14 +48,14 @@ returns-in_default-judge_deck-clause-outcome g c =
 pub returns-in_default-judge_deck-clause-steps : goal.returns-in_default-judge_deck-clause-steps
 returns-in_default-judge_deck-clause-steps g c =
     let all = c.in_default-take_all.ensures.all in
-    steps_of (most_after (g.W.DeckWord.most c.args.word.now)) _ _ all.taken c.bytes.result.now _ _ all.takes
+    steps_of (most_after (g.W.DeckWord.most c.args.self.now.word)) _ _ all.taken c.bytes.result.now _ _ all.takes
     (c.bytes.ensures ∙ all.says.0) c.in_default-judge_deck.ensures.steps
 
 -- the answer is told
 pub returns-clause-steps : goal.returns-clause-steps
 returns-clause-steps g c =
     let all = c.in_default-take_all.ensures.all in
-    steps_of (most_after (g.W.DeckWord.most c.args.word.now)) _ _ all.taken c.bytes.result.now _ _ all.takes
+    steps_of (most_after (g.W.DeckWord.most c.args.self.now.word)) _ _ all.taken c.bytes.result.now _ _ all.takes
     (c.bytes.ensures ∙ all.says.0) c.in-Ok-judge_deck.ensures.steps
 
 pub returns-clause-read_fault : goal.returns-clause-read_fault
