@@ -9,7 +9,7 @@ use std::alloc::{AllocError, Global};
 use std::marker::Model;
 
 /// How many bytes of a line are kept: one more than a line that is too long stands for.
-pub(crate) const KEPT: usize = 4098;
+const KEPT: usize = 4098;
 
 /// The length of the line that `raw` is: without a carriage return at its end, and of at most 4,097 bytes.
 pub(crate) fn line_length(raw: &[u8]) -> usize
