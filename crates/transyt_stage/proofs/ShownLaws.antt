@@ -1,15 +1,13 @@
 -- The steps at which a link is shown.
-use Rattle.std.proofs.Common.{◌≡◌, ◌≢◌, ℕ, ◌+◌, ◌%◌, ◌<◌, ◌≤◌, Bool, true, false, ◌&&◌, ◌||◌, List, length, get_or, set}
-use Rattle.std.proofs.Common.{nat_lt, nat_le, refl, ap, sym, ◌∙◌, arith, ◌⊎◌, inl, inr, map, replicate, if◌then◌else◌}
+use Rattle.std.proofs.Common.{◌≡◌, ℕ, ◌+◌, ◌-◌, ◌%◌, ◌<◌, ◌≤◌, min, Bool, true, false, ◌&&◌, ◌||◌, List, length, get_or}
+use Rattle.std.proofs.Common.{nat_lt, nat_le, refl, ap, sym, ◌∙◌, arith, ◌⊎◌, inl, inr, ⊎_elim, map, replicate, if◌then◌else◌}
 use Rattle.std.specs.List.{list_any, range_with_len}
 use Rattle.std.proofs.lemmas.List.FromFn.{fill_by_all, get_or-map-range_with_len, length-map-range_with_len}
-use Rattle.std.proofs.lemmas.Bool.{cases_eq}
+use Rattle.std.proofs.lemmas.Bool.{cases_lt}
 use Rattle.std.proofs.lemmas.Bool.Decides.{nat_tests}
-use Rattle.std.proofs.lemmas.List.{get_or-set_other, get_or-replicate}
-use Rattle.std.proofs.lemmas.Grind.{get_or-set_at}
-use Rattle.std.proofs.Math.Nat.{mod-eq_of_lt}
+use Rattle.std.proofs.lemmas.List.{get_or-replicate}
+use Rattle.std.proofs.Math.Nat.{mod-eq_of_lt, mod-eq-sub-mod, mod-lt, mod-add-mod}
 use Rattle.transyt_cycle.specs.Cycle.{minus_mod, step_before}
-use Rattle.transyt_cycle.proofs.CycleLaws.{minus_mod-of_add, minus_mod-add}
 use Rattle.transyt_parts.specs.Parts.{NodeValue}
 use Rattle.transyt_parts.specs.Plan.{stage_of, length_at}
 use Rattle.transyt_parts.proofs.BelowLaws.{any_more}
@@ -20,35 +18,28 @@ use Rattle.transyt_stage.proofs.StepLaws.{green_without_lags}
 abbrev pub between : ℕ → ℕ → ℕ → Bool
 between from to m = nat_le from m && nat_lt m to
 
--- at the end of the steps
-pub between_end : (from to s m : ℕ) → from ≤ s → to ≤ s → (from ≤ to → s ≤ to) → (to ≤ from → s ≡ from)
-    → between from s m ≡ between from to m
-between_end from to s m start end within once = grind (arith, nat_tests)
+-- the place in its turn of a number below two turns is the number, or a turn less
+mod-two_turns : (n k : ℕ) → k < n + n → (k % n ≡ k) ⊎ (k % n + n ≡ k)
+mod-two_turns n k below =
+    ⊎_elim (λ less. inl (mod-eq_of_lt less))
+    (λ more. inr (omega (arith, mod-eq-sub-mod more ∙ mod-eq_of_lt (omega arith)))) (cases_lt k n)
 
--- with the step s after the change given the value, the steps up to s have it
-pub added_step : {X : Type 0} (value : X) (out first : List X) (n change from s place : ℕ)
-    → length out ≡ n → s < n → from ≤ s → place ≡ (s + change) % length out
-    → ((i : ℕ) (d : X) → i < n
-    → get_or out i d ≡ (if between from s (minus_mod n i change) then value else get_or first i d))
-    → (i : ℕ) (d : X) → i < n
-    → get_or (set out place value) i d
-    ≡ (if between from (s + 1) (minus_mod n i change) then value else get_or first i d)
-added_step {X} value out first n change from s place len within start at so_far i d below = by (cases_eq i place)
-  where
-    there : place ≡ (s + change) % n
-    there = at ∙ ap (λ k. (s + change) % k) len
-
-    by : (i ≡ place) ⊎ (i ≡ place → ⊥) → get_or (set out place value) i d
-        ≡ (if between from (s + 1) (minus_mod n i change) then value else get_or first i d)
-    by (inl same) =
-        let here : minus_mod n i change ≡ s =
-        ap (λ k. minus_mod n k change) (same ∙ there) ∙ minus_mod-of_add n s change within in
-        grind (arith, nat_tests, get_or-set_at out place i value d)
-    by (inr other) =
-        let elsewhere : minus_mod n i change ≢ s =
-        λ e. other (sym (mod-eq_of_lt below) ∙ sym (minus_mod-add n i change (omega arith))
-        ∙ ap (λ m. (m + change) % n) e ∙ sym there) in
-        grind (arith, nat_tests, get_or-set_other out place i value d, so_far i d below)
+-- the steps from `from` to `to` after a change are those from `start` on, and past the cycle's end its first
+pub between_round : (n i change from to start : ℕ) → i < n → from ≤ n → to ≤ n → start ≡ (change + from) % n
+    → between from to (minus_mod n i change)
+    ≡ (between 0 (start + (to - from) - n) i || between start (min (start + (to - from)) n) i)
+between_round n i change from to start below from_most to_most at =
+    let some : 0 < n = omega arith in
+    let rest : change % n < n = mod-lt change some in
+    grind (
+      arith,
+      nat_tests,
+      at ∙ sym (mod-add-mod change n from),
+      mod-two_turns n (change % n + from) (omega arith),
+      mod-two_turns n (i + (n - change % n)) (omega arith),
+      mod-lt (change % n + from) some,
+      mod-lt (i + (n - change % n)) some,
+    )
 
 -- a value that some test so far gives, and then one more
 pub one_more : {X : Type 0} (p : ℕ → Bool) (n : ℕ) (value first before after : X)

@@ -1,8 +1,8 @@
--- Steps back and on round the cycle, without a division.
+-- Steps back round the cycle, without a division.
 use Rattle.std.proofs.Common.{◌≡◌, ℕ, ◌+◌, ◌-◌, ◌%◌, ◌<◌, ◌≤◌, Bool, false, List, length, get_or}
 use Rattle.std.proofs.Common.{ap, sym, ◌∙◌, arith}
 use Rattle.std.proofs.lemmas.Bool.Decides.{nat_tests}
-use Rattle.std.proofs.Math.Nat.{mod-eq_of_lt, mod-add-mod, add-mod_left}
+use Rattle.std.proofs.Math.Nat.{mod-eq_of_lt, add-mod_left}
 use Rattle.transyt_cycle.specs.Cycle.{minus_mod}
 use Rattle.transyt_cycle.proofs.CycleLaws.{minus_mod-of_add}
 use Rattle.transyt_stage.specs.Green.{green_at}
@@ -20,13 +20,6 @@ back_round n i b below past round =
     let there : n - (b - i) + b ≡ n + i = omega arith in
     let at : (n - (b - i) + b) % n ≡ i = ap (λ k. k % n) there ∙ add-mod_left n i ∙ mod-eq_of_lt below in
     ap (λ k. minus_mod n k b) (sym at) ∙ minus_mod-of_add n (n - (b - i)) b (omega arith)
-
--- the step after n steps after a change is that of n + 1 steps
-pub step_more : (n since change step after : ℕ) → step ≡ (since + change) % n → after ≡ (step + 1) % n
-    → after ≡ (since + 1 + change) % n
-step_more n since change step after at next =
-    let one : since + change + 1 ≡ since + 1 + change = omega arith in
-    next ∙ ap (λ k. (k + 1) % n) at ∙ mod-add-mod (since + change) n 1 ∙ ap (λ k. k % n) one
 
 -- without lags a link is green where it is shown
 pub green_without_lags : (shown : List Bool) (start_lag end_lag i : ℕ) → i < length shown → start_lag ≡ 0 → end_lag ≡ 0

@@ -1,6 +1,6 @@
 //! When a link is green, and the GO of its green.
 
-ghost use Rattle.std.specs.Prelude.{◌≡◌, ℕ, ◌^◌, ◌+◌, ◌%◌, ◌<◌, ◌≤◌, ◌&&◌, ◌||◌, nat_le, nat_lt, length, map, All};
+ghost use Rattle.std.specs.Prelude.{◌≡◌, ℕ, ◌^◌, ◌+◌, ◌<◌, ◌≤◌, ◌&&◌, ◌||◌, nat_le, nat_lt, length, map, All};
 ghost use Rattle.std.specs.Prelude.{slice_index_or, false, if◌then◌else◌, IsTrue, ◌↔◌};
 ghost use Rattle.std.specs.List.{range_with_len};
 ghost use Rattle.transyt_cycle.specs.Cycle.{minus_mod, step_before};
@@ -259,7 +259,6 @@ fn span(signals: &Signals<'_>, place: usize) -> Span
 }
 
 /// Gives `value` to the steps of a span.
-#[tactic(auto, using(crate::proofs::ShownLaws::between_end))]
 fn show_steps<T: Copy>(span: &Span, value: T, out: &mut [T])
     requires { length out.old ≡ span.now.step_count }
     ensures steps { length out.new ≡ length out.old }
@@ -268,21 +267,25 @@ fn show_steps<T: Copy>(span: &Span, value: T, out: &mut [T])
         (minus_mod span.now.step_count i span.now.change) span.now.to
         then value else slice_index_or out.old i other) }
 {
-    let mut step = (span.from + span.change) as usize % out.len();
-    for since in span.from..span.to {
-        let _ = since;
-        out[step] = value;
-        step = step_after(out.len(), step);
-    }
+    let step_count = span.step_count as usize;
+    let start = (span.change + span.from) as usize % step_count;
+    let end = start + span.to.saturating_sub(span.from) as usize;
+    fill_steps(start, end.min(step_count), value, out);
+    // the steps past the last one come round to the first
+    fill_steps(0, end.saturating_sub(step_count), value, out);
 }
 
-/// The step after a step, round the cycle.
-fn step_after(step_count: usize, step: usize) -> usize
-    requires { step < step_count }
-    ensures value { result ≡ (step + 1) % step_count }
-    ensures below { result < step_count }
+/// Gives `value` to the steps from `from` to the one before `to`.
+fn fill_steps<T: Copy>(from: usize, to: usize, value: T, out: &mut [T])
+    requires order { from ≤ to }
+    requires within { to ≤ length out.old }
+    ensures steps { length out.new ≡ length out.old }
+    ensures filled { (i : ℕ) → (other : T) → i < length out.old → slice_index_or out.new i other
+        ≡ (if nat_le from i && nat_lt i to then value else slice_index_or out.old i other) }
 {
-    if step + 1 == step_count { 0 } else { step + 1 }
+    for step in from..to {
+        out[step] = value;
+    }
 }
 
 /// Whether a link that runs in these stages runs in the stage at a place; stages are numbered from 1.

@@ -43,6 +43,6 @@ pub(crate) struct Span {
     ghost some: { 0 < step_count },
     ghost most: { step_count ≤ 120 },
     ghost change_most: { change ≤ 240 },
-    ghost from_most: { from ≤ 120 },
+    ghost from_most: { from ≤ step_count },
     ghost to_most: { to ≤ step_count },
 }
