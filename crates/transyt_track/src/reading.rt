@@ -9,16 +9,17 @@ ghost use Rattle.transyt_track.specs.Front.{flag};
 
 use crate::change::{Front, Pair};
 
-/// Whether the flag of one of these is up. All are read, since a jump out at the first that is up is seldom foreseen.
+/// Whether the flag of one of these is up. The loop ends at the first, so it isn't unrolled: a link reads few others.
 pub(crate) fn any_changed(changed: &[bool], places: &[usize]) -> bool
     requires { All (λ p. p < length changed.now) places.now }
     ensures { result ≡ list_any (flag changed.now) places.now }
 {
-    let mut any = false;
     for place in places {
-        any |= changed[*place];
+        if changed[*place] {
+            return true;
+        }
     }
-    any
+    false
 }
 
 /// Whether there is this one, and its flag is up.
