@@ -1,9 +1,10 @@
 -- The node of a link stands at its place.
 use Rattle.std.proofs.Common.{◌≡◌, ◌↔◌, ℕ, ◌<◌, Bool, true, false, List, [], ◌∷◌, ◌++◌, ◌+◌, take, length}
 use Rattle.std.proofs.Common.{Option, Some, None, map, All, IfSome, refl, ap, sym, subst, ◌∙◌, get_or, nat_eq}
-use Rattle.std.proofs.Common.{◌≤◌, arith}
+use Rattle.std.proofs.Common.{◌≤◌, arith, option_to_list}
 use Rattle.std.proofs.lemmas.List.FromFn.{length-map-range_with_len, get_or-map-range_with_len}
-use Rattle.std.specs.List.{position_or_len}
+use Rattle.std.specs.List.{position_or_len, slice_get}
+use Rattle.std.proofs.Math.Seq.{take-append_seam}
 use Rattle.std.proofs.lemmas.List.{get_or_default, map-append, take_more}
 use Rattle.std.proofs.lemmas.List.Folds.{list_any_none}
 use Rattle.std.proofs.lemmas.List.Sums.{fails_before_first}
@@ -121,6 +122,26 @@ rule_inside net l count places some same is =
     subst (λ n. IfSome places.rule (λ j. j < n)) same
     (subst (λ (p : PlacesValue). IfSome p.rule (λ j. j < length net.links)) (sym is)
     (rule_there net some (link_of net l).gives_way))
+
+rule_after : (feeders : List ℕ) (rule : Option ℕ)
+    → slice_get (feeders ++ option_to_list rule) (length feeders) ≡ rule
+rule_after [] None = refl
+rule_after [] (Some place) = refl
+rule_after (feeder ∷ feeders) rule = rule_after feeders rule
+
+-- the feeders with the link of the rule after them are the places of a link
+pub places_read : (net : Network) (l node count : ℕ) (read feeders : List ℕ) → node ≡ (places_at net l).node
+    → feeders ≡ (places_at net l).feeders → count ≡ length feeders
+    → read ≡ feeders ++ option_to_list (places_at net l).rule
+    → record { node = node; feeders = take count read; rule = slice_get read count } ≡ places_at net l
+places_read net l node count read feeders node_is feeders_are count_is read_is =
+    let took : take count read ≡ (places_at net l).feeders =
+    (λ j. take (count_is j) (read_is j))
+    ∙ take-append_seam feeders (option_to_list (places_at net l).rule)
+    ∙ feeders_are in
+    let rule : slice_get read count ≡ (places_at net l).rule =
+    (λ j. slice_get (read_is j) (count_is j)) ∙ rule_after feeders (places_at net l).rule in
+    (λ j. record { node = node_is j; feeders = took j; rule = rule j })
 
 -- the entry read from the table is that of the place
 pub place_read : (net : Network) (table : List PlacesValue) (l : ℕ) (p : PlacesValue) → ArePlaces net table

@@ -1,6 +1,6 @@
 //! The own data of a link, and where its node and the links that it reads stand.
 
-ghost use Rattle.std.specs.Prelude.{◌≡◌, ◌↔◌, ◌<◌, length, map, IfOk, IfSome, IsTrue};
+ghost use Rattle.std.specs.Prelude.{◌≡◌, ◌↔◌, ◌<◌, ◌++◌, length, map, option_to_list, IfOk, IfSome, IsTrue, OnOk};
 ghost use Rattle.transyt_net.specs.Parts.{link_of};
 ghost use Rattle.transyt_net.specs.Edits.{with_edit};
 ghost use Rattle.transyt_net.specs.Valid.{IsValid, link_place};
@@ -14,20 +14,30 @@ use std::alloc::{AllocError, Global};
 use std::marker::Model;
 use transyt_net::{Edit, Feed, GiveWay, Link, Net, Node, Stage};
 
-/// Where the node of a link stands, its feeders in order, and the link to which it gives way.
+/// Where the node of a link stands, and the links that it reads: its feeders in order, then the link to which it gives
+/// way.
 #[derive(Drop)]
 pub(crate) struct Places {
     pub(crate) node: usize,
-    pub(crate) feeders: Vec<usize>,
-    pub(crate) rule: Option<usize>,
+    pub(crate) read: Vec<usize>,
+    pub(crate) feeder_count: usize,
 }
 
 impl Model for Places {
+    ghost use Rattle.std.specs.Prelude.{◌≤◌, ◌+◌, length, take};
+    ghost use Rattle.std.specs.List.{slice_get};
     ghost use Rattle.transyt_track.specs.Own.{PlacesValue};
 
     ghost Value = { PlacesValue };
 
-    ghost view = { λ p. record { node = p.node; feeders = p.feeders.items; rule = p.rule } };
+    ghost view = { λ p. record {
+      node = p.node;
+      feeders = take p.feeder_count p.read.items;
+      rule = slice_get p.read.items p.feeder_count;
+    } };
+
+    ghost invariant = { λ p. (p.feeder_count ≤ length p.read.items)
+        × (length p.read.items ≤ p.feeder_count + 1) };
 }
 
 /// The link at a place.
@@ -145,25 +155,26 @@ fn node_place(net: &Net, number: u32) -> usize
     }
 }
 
-/// The places of the feeders, in order.
+/// The places of the feeders, in order, with room for one more.
 fn feeder_places(alloc: Global, net: &Net, feeds: &[Feed]) -> Result<Vec<usize>, AllocError>
     ensures { IfOk result (λ places. places.items ≡ map (feeder_place net.now) feeds.now) }
 {
-    let mut places = Vec::with_capacity(alloc, feeds.len())?;
+    let mut places = Vec::with_capacity(alloc, feeds.len() + 1)?;
     for feed in feeds {
         places.push(link_place(net, feed.feeder))?;
     }
     Ok(places)
 }
 
-/// The place of the link to which a rule gives way.
-fn rule_place(net: &Net, rule: Option<GiveWay>) -> Option<usize>
-    ensures { result ≡ rule_place net.now rule }
+/// Adds the place of the link to which a rule gives way, if there is one.
+fn push_rule(net: &Net, rule: Option<GiveWay>, read: &mut Vec<usize>) -> Result<(), AllocError>
+    ensures { OnOk result (read.new.items
+        ≡ read.old.items ++ option_to_list (rule_place net.now rule)) }
 {
-    match rule {
-        None => None,
-        Some(way) => Some(link_place(net, way.other)),
+    if let Some(way) = rule {
+        read.push(link_place(net, way.other))?;
     }
+    Ok(())
 }
 
 /// The places of a link.
@@ -172,10 +183,14 @@ fn places_of(alloc: Global, net: &Net, link: usize) -> Result<Places, AllocError
     ensures { IfOk result (λ places. places ≡ places_at net.now link) }
 {
     let at = link_at(net, link);
+    let node = node_place(net, at.node);
+    let mut read = feeder_places(alloc, net, &at.feeds)?;
+    let feeder_count = read.len();
+    push_rule(net, at.gives_way, &mut read)?;
     Ok(Places {
-        node: node_place(net, at.node),
-        feeders: feeder_places(alloc, net, &at.feeds)?,
-        rule: rule_place(net, at.gives_way),
+        node,
+        read,
+        feeder_count,
     })
 }
 

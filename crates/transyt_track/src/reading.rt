@@ -1,8 +1,7 @@
 //! Whether what a link reads differs: its feeders and the link to which it gives way, by their flags.
 
-ghost use Rattle.std.specs.Prelude.{◌≡◌, ◌<◌, false, length, All, IfSome};
+ghost use Rattle.std.specs.Prelude.{◌≡◌, ◌<◌, length, All};
 ghost use Rattle.std.specs.List.{list_any};
-ghost use Rattle.std.specs.Option.{option_map_or};
 ghost use Rattle.transyt_track.specs.Due.{is_due};
 ghost use Rattle.transyt_track.specs.Change.{IsFront};
 ghost use Rattle.transyt_track.specs.Front.{flag};
@@ -22,17 +21,6 @@ pub(crate) fn any_changed(changed: &[bool], places: &[usize]) -> bool
     false
 }
 
-/// Whether there is this one, and its flag is up.
-fn is_changed(changed: &[bool], place: Option<usize>) -> bool
-    requires { IfSome place (λ p. p < length changed.now) }
-    ensures { result ≡ option_map_or (flag changed.now) place false }
-{
-    match place {
-        None => false,
-        Some(place) => changed[place],
-    }
-}
-
 /// Whether the pair at the front is due: its link's own data differ, or departures that it reads.
 pub(crate) fn is_due(pair: &Pair<'_, '_>, front: &Front) -> bool
     requires { IsFront pair.now.change.now pair.now.sweep pair.now.link front.now }
@@ -41,7 +29,5 @@ pub(crate) fn is_due(pair: &Pair<'_, '_>, front: &Front) -> bool
         pair.now.link }
 {
     let places = pair.change.link(pair.link).places;
-    let fed = any_changed(&front.out_changed, &places.feeders);
-    let barred = is_changed(&front.out_changed, places.rule);
-    front.own_changed[pair.link] | fed | barred
+    any_changed(&front.out_changed, &places.read) || front.own_changed[pair.link]
 }

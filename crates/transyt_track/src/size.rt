@@ -23,8 +23,8 @@ const PROFILE: usize = STEPS * size_of::<u64>();
 const VERSION: usize = PAIRS * PROFILE + LINKS * (3 * PROFILE + size_of::<Figures>());
 // the two versions of all rows, and two bits for each row that tell which is which
 const ROWS: usize = 2 * VERSION + 2 * (PAIRS + 4 * LINKS) * size_of::<bool>();
-// the places of each link's node, feeders and rule
-const PLACES: usize = LINKS * (size_of::<Places>() + FEEDS * size_of::<usize>());
+// the places of each link's node, of its feeders and of the link to which it gives way
+const PLACES: usize = LINKS * (size_of::<Places>() + (FEEDS + 1) * size_of::<usize>());
 // two flags for each link, the room for one link's work, and the numbers worked out last for each feed
 const ROOM: usize = 2 * LINKS * size_of::<bool>() + 13 * PROFILE + LINKS * FACTOR_BYTES;
 
