@@ -1,13 +1,11 @@
 -- Tests of the places that a link reads, by flags that tell them.
-use Rattle.std.proofs.Common.{◌≡◌, ℕ, ◌<◌, Bool, false, ◌||◌, List, [], ◌∷◌, All}
-use Rattle.std.proofs.Common.{Option, Some, None, IfSome, refl, ap, sym, subst, ◌∙◌, arith, ◌+◌, ◌≤◌, length, take, get_or}
-use Rattle.std.proofs.Common.{◌⊎◌, inl, inr}
+use Rattle.std.proofs.Common.{◌≡◌, ℕ, zero, suc, ◌+◌, ◌<◌, ◌≤◌, Bool, false, ◌||◌, List, [], ◌∷◌, ◌++◌, All, length}
+use Rattle.std.proofs.Common.{Option, Some, None, IfSome, option_to_list, take, refl, ap, ◌∙◌, arith}
 use Rattle.std.specs.List.{list_any, slice_get}
 use Rattle.std.specs.Option.{option_map_or}
-use Rattle.std.proofs.lemmas.List.{take_all}
-use Rattle.std.proofs.lemmas.List.Elements.{All-head, All-tail, All-same, All-more}
-use Rattle.std.proofs.lemmas.List.Folds.{list_any_more}
-use Rattle.std.proofs.lemmas.Option.{slice_get_cases}
+use Rattle.std.proofs.lemmas.List.Elements.{All-head, All-tail, All-nil, All-cons, All-append}
+use Rattle.std.proofs.lemmas.List.Folds.{list_any-append}
+use Rattle.transyt_track.specs.Own.{PlacesValue, read_places}
 
 -- or
 pub or_false : (x : Bool) → (x || false) ≡ x
@@ -24,32 +22,31 @@ any_same f g count same (j ∷ js) all =
     ap (λ b. b || list_any f js) (same j (All-head (λ k. k < count) j js all))
     ∙ ap (λ b. g j || b) (any_same f g count same js (All-tail (λ k. k < count) j js all))
 
--- a list whose first places are feeders, and the one after them that of a rule, if there is one
-module _ (read : List ℕ) (count : ℕ) (most : length read ≤ count + 1) where
-  pub any_read : (f : ℕ → Bool)
-      → list_any f read ≡ (list_any f (take count read) || option_map_or f (slice_get read count) false)
-  any_read f = by (slice_get_cases read count).1
-    where
-      by : ((x : ℕ) × (count < length read) × (slice_get read count ≡ Some x) × (get_or read count x ≡ x))
-          ⊎ ((length read ≤ count) × (slice_get read count ≡ None))
-          → list_any f read ≡ (list_any f (take count read) || option_map_or f (slice_get read count) false)
-      by (inl (x, inside, found, here)) =
-          ap (list_any f) (sym (take_all (count + 1) read most))
-          ∙ list_any_more f read count x inside
-          ∙ ap (λ y. list_any f (take count read) || f y) here
-          ∙ sym (ap (λ o. list_any f (take count read) || option_map_or f o false) found)
-      by (inr (past, none)) =
-          sym (or_false (list_any f read))
-          ∙ ap (λ ps. list_any f ps || false) (sym (take_all count read past))
-          ∙ sym (ap (λ o. list_any f (take count read) || option_map_or f o false) none)
+-- a list with at most one element after the first `count`
+pub whole : (read : List ℕ) (count : ℕ) → length read ≤ count + 1
+    → read ≡ take count read ++ option_to_list (slice_get read count)
+whole [] zero most = refl
+whole [] (suc count) most = refl
+whole (x ∷ []) zero most = refl
+whole (x ∷ y ∷ ys) zero most = absurd (omega arith)
+whole (x ∷ xs) (suc count) most = ap (λ ys. x ∷ ys) (whole xs count (omega arith))
 
-  pub all_read : (P : ℕ → Type 0) → All P (take count read) → IfSome (slice_get read count) P → All P read
-  all_read P feeders rule = by (slice_get_cases read count).1
-    where
-      by : ((x : ℕ) × (count < length read) × (slice_get read count ≡ Some x) × (get_or read count x ≡ x))
-          ⊎ ((length read ≤ count) × (slice_get read count ≡ None)) → All P read
-      by (inl (x, inside, found, here)) =
-          All-same P read (take (count + 1) read) (sym (take_all (count + 1) read most))
-          (All-more P read count x inside feeders
-          (subst P (sym here) (subst (λ (o : Option ℕ). IfSome o P) found rule)))
-      by (inr (past, none)) = All-same P read (take count read) (sym (take_all count read past)) feeders
+-- tests and facts of all that a link reads, by those of its feeders and of the link to which it gives way
+any_one : (f : ℕ → Bool) (rule : Option ℕ) → list_any f (option_to_list rule) ≡ option_map_or f rule false
+any_one f None = refl
+any_one f (Some place) = or_false (f place)
+
+pub any_read : (f : ℕ → Bool) (places : PlacesValue)
+    → list_any f (read_places places) ≡ (list_any f places.feeders || option_map_or f places.rule false)
+any_read f places =
+    list_any-append f places.feeders (option_to_list places.rule)
+    ∙ ap (λ x. list_any f places.feeders || x) (any_one f places.rule)
+
+all_one : (P : ℕ → Type 0) (rule : Option ℕ) → IfSome rule P → All P (option_to_list rule)
+all_one P None is = All-nil P
+all_one P (Some place) is = All-cons P place [] is (All-nil P)
+
+pub all_read : (P : ℕ → Type 0) (places : PlacesValue) → All P places.feeders → IfSome places.rule P
+    → All P (read_places places)
+all_read P places feeders rule =
+    All-append P places.feeders (option_to_list places.rule) feeders (all_one P places.rule rule)

@@ -1,9 +1,9 @@
 -- THE LAW OF THE FRONT: each turn keeps it.
 use Rattle.std.proofs.Common.{◌≡◌, ◌≢◌, ℕ, ◌+◌, ◌<◌, ◌≤◌, Bool, true, false, cond, not, ◌||◌, List, length}
-use Rattle.std.proofs.Common.{set, take, refl, ap, sym, subst, ◌∙◌, arith}
+use Rattle.std.proofs.Common.{set, refl, ap, sym, subst, ◌∙◌, arith}
 use Rattle.std.proofs.Common.{◌==◌, ◌⊎◌, inl, inr, if◌then◌else◌}
 use Rattle.std.specs.Str.{bytes_eq}
-use Rattle.std.specs.List.{list_any, slice_get}
+use Rattle.std.specs.List.{list_any}
 use Rattle.std.specs.Option.{option_map_or}
 use Rattle.std.proofs.lemmas.Bool.{cases_eq}
 use Rattle.std.proofs.lemmas.Bool.Decides.{nat_tests}
@@ -20,7 +20,7 @@ use Rattle.transyt_kept.specs.Rows.{AreRows}
 use Rattle.transyt_sweep.specs.Front.{AreMixed, AreEvaluation}
 use Rattle.transyt_sweep.proofs.SweepLaws.{out_of_pair, evaluated_is}
 use Rattle.transyt_sweep.proofs.FrontLaws.{mixed_turn, before_end}
-use Rattle.transyt_track.specs.Own.{IsRead, PlacesValue, places_at}
+use Rattle.transyt_track.specs.Own.{IsRead, PlacesValue, read_places}
 use Rattle.transyt_track.specs.Due.{differs, read_differs, is_due}
 use Rattle.transyt_track.specs.Front.{AreShownMixed, AreFlags, flag, AreAt, left_at, own_differs}
 use Rattle.transyt_track.proofs.FlagLaws.{any_same, any_read, all_read, or_last}
@@ -61,20 +61,18 @@ read_turn s links m inside = grind (arith, nat_tests)
 
 module _ (a b : Network) (s l : ℕ) (rows : RowsValue) (changed : List Bool) (at : AreAt a b s l rows changed) where
   -- the flags tell whether the link at the front is due
-  pub due_told : (node count : ℕ) (read : List ℕ) → length read ≤ count + 1
-      → IsRead a b l (record { node = node; feeders = take count read; rule = slice_get read count })
-      → (fed own : Bool) → fed ≡ list_any (flag changed) read → own ≡ own_differs a b l
+  pub due_told : (places : PlacesValue) → IsRead a b l places → (fed own : Bool)
+      → fed ≡ list_any (flag changed) (read_places places) → own ≡ own_differs a b l
       → (fed || own) ≡ is_due a b s l
-  due_told node count read most is fed own told owned =
+  due_told places is fed own told owned =
       let tests = read_differs a b s l in
-      let inside = all_read read count most (λ j. j < length b.links) is.feeders is.rule in
-      let any = told ∙ any_same (flag changed) tests (length b.links) at.flags.flagged read inside
-      ∙ any_read read count most tests in
+      let inside = all_read (λ j. j < length b.links) places is.feeders is.rule in
+      let any = told ∙ any_same (flag changed) tests (length b.links) at.flags.flagged (read_places places) inside
+      ∙ any_read tests places in
       (λ j. any j || owned j)
-      ∙ ap (λ (p : PlacesValue). list_any tests p.feeders || option_map_or tests p.rule false || own_differs a b l)
+      ∙ or_last (list_any tests places.feeders) (option_map_or tests places.rule false) (own_differs a b l)
+      ∙ ap (λ (p : PlacesValue). own_differs a b l || list_any tests p.feeders || option_map_or tests p.rule false)
       is.places_before
-      ∙ or_last (list_any tests (places_at a l).feeders) (option_map_or tests (places_at a l).rule false)
-      (own_differs a b l)
 
   -- after a link's turn its flag is that of its departures
   pub flags_put : l < length b.links → (d : Bool) → d ≡ differs a b s l

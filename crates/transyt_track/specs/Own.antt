@@ -1,6 +1,6 @@
 -- The own data of a link: all that edits change of its work, departures and weights apart; and which links it reads.
 use Rattle.std.specs.Prelude.{◌≡◌, ℕ, ◌<◌, Bool, ◌&&◌, nat_eq, List, length, map, Option, slice_index_or}
-use Rattle.std.specs.Prelude.{All, IfSome}
+use Rattle.std.specs.Prelude.{All, IfSome, option_to_list, ◌++◌}
 use Rattle.std.specs.Str.{bytes_eq}
 use Rattle.std.specs.List.{range_with_len}
 use Rattle.std.specs.Option.{option_map}
@@ -102,6 +102,10 @@ pub record PlacesValue : Type 0 where
   pub node : ℕ
   pub feeders : List ℕ
   pub rule : Option ℕ
+
+-- the places of all that a link reads: its feeders, and then the link to which it gives way
+abbrev pub read_places : PlacesValue → List ℕ
+read_places places = places.feeders ++ option_to_list places.rule
 
 -- the places of the link at a place
 abbrev pub places_at : Network → ℕ → PlacesValue

@@ -6,7 +6,7 @@ ghost use Rattle.transyt_net.specs.Edits.{with_edit};
 ghost use Rattle.transyt_net.specs.Valid.{IsValid, link_place};
 ghost use Rattle.transyt_track.specs.Own.{change_of, flow_of, cruise_of, feeder_place, rule_place, node_place};
 ghost use Rattle.transyt_track.specs.Own.{all_places, places_at, SameTimes, SameNumbers, HaveNode, HaveData};
-ghost use Rattle.transyt_track.specs.Own.{DifferAt};
+ghost use Rattle.transyt_track.specs.Own.{DifferAt, read_places};
 ghost use Rattle.transyt_track.specs.Front.{AreDownWhere, total_differs};
 
 use crate::change::ChangedLink;
@@ -19,8 +19,8 @@ use transyt_net::{Edit, Feed, GiveWay, Link, Net, Node, Stage};
 #[derive(Drop)]
 pub(crate) struct Places {
     pub(crate) node: usize,
-    pub(crate) read: Vec<usize>,
-    pub(crate) feeder_count: usize,
+    read: Vec<usize>,
+    feeder_count: usize,
 }
 
 impl Model for Places {
@@ -38,6 +38,23 @@ impl Model for Places {
 
     ghost invariant = { λ p. (p.feeder_count ≤ length p.read.items)
         × (length p.read.items ≤ p.feeder_count + 1) };
+}
+
+impl Places {
+    /// The places of the feeders.
+    pub(crate) fn feeders(&self) -> &[usize]
+        ensures { result.now ≡ self.now.feeders }
+    {
+        &self.read[..self.feeder_count]
+    }
+
+    /// The places of all that the link reads.
+    #[tactic(auto, using(crate::proofs::FlagLaws::whole))]
+    pub(crate) fn read(&self) -> &[usize]
+        ensures { result.now ≡ read_places self.now }
+    {
+        &self.read
+    }
 }
 
 /// The link at a place.

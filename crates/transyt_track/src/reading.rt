@@ -29,5 +29,5 @@ pub(crate) fn is_due(pair: &Pair<'_, '_>, front: &Front) -> bool
         pair.now.link }
 {
     let places = pair.change.link(pair.link).places;
-    any_changed(&front.out_changed, &places.read) || front.own_changed[pair.link]
+    any_changed(&front.out_changed, places.read()) || front.own_changed[pair.link]
 }

@@ -105,7 +105,7 @@ fn flag_fed(change: &Change<'_>, out_changed: &[bool], own_changed: &mut Vec<boo
 {
     for link in 0..change.after.links().len() {
         let places = change.link(link).places;
-        own_changed[link] |= any_changed(out_changed, &places.read[..places.feeder_count]);
+        own_changed[link] |= any_changed(out_changed, places.feeders());
     }
 }
 

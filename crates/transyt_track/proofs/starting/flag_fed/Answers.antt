@@ -1,5 +1,5 @@
 -- One link more.
-use Rattle.std.proofs.Common.{◌≡◌, ◌≢◌, ◌<◌, ◌||◌, false, length, take, All, ap, subst, sym, ◌∙◌, arith}
+use Rattle.std.proofs.Common.{◌≡◌, ◌≢◌, ◌<◌, ◌||◌, false, length, All, ap, subst, sym, ◌∙◌, arith}
 use Rattle.std.specs.List.{list_any}
 use Rattle.std.proofs.lemmas.List.{length-set, get_or-set_other, get_or_default}
 use Rattle.transyt_track.specs.Own.{PlacesValue, places_at}
@@ -11,11 +11,7 @@ use Rattle.transyt_track.proofs.ShapeLaws.{shape_places}
 use Rattle.transyt_track.proofs.starting.flag_fed.Goals as goal
 
 pub any_changed-requires : goal.any_changed-requires
-any_changed-requires c =
-    let count = length c.args.change.now.after.now.links in
-    let feeders : All (λ j. j < count) (take c.places.inside.feeder_count c.places.inside.read.items) =
-    subst (λ (q : PlacesValue). All (λ j. j < count) q.feeders) (sym c.places.view_is) c.link.ensures.read.feeders in
-    rw (c.deref.ensures.value, c.requires.totals.count) feeders
+any_changed-requires c = rw (c.feeders.ensures, c.requires.totals.count) c.link.ensures.read.feeders
 
 pub loop-link-preserved : goal.loop-link-preserved
 loop-link-preserved c =
@@ -30,9 +26,8 @@ loop-link-preserved c =
     let kept : up ≡ flag c.args.own_changed.now.items l =
     c.index_mut.ensures.value ∙ get_or_default flags l up false here ∙ c.loop-link.invariant.others l (omega arith) in
     let old = c.requires.own.down l read.inside in
-    let feeders : take c.places.inside.feeder_count c.deref.result.now ≡ (places_at a l).feeders =
-    ap (take c.places.inside.feeder_count) c.deref.ensures.value
-    ∙ ap (λ (q : PlacesValue). q.feeders) (c.places.view_is ∙ read.places_before) in
+    let feeders : c.feeders.result.now ≡ (places_at a l).feeders =
+    c.feeders.ensures ∙ ap (λ (q : PlacesValue). q.feeders) read.places_before in
     let fed : any ≡ list_any (total_differs a b) (places_at a l).feeders =
     c.any_changed.ensures
     ∙ ap (list_any (flag c.args.out_changed.now)) feeders
