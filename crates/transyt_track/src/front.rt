@@ -91,12 +91,13 @@ impl ChangedSweep<'_, '_> {
             self.now.number }
         ensures steps { steps.new ≡ steps.old + result }
     {
-        let change = self.change;
+        // a copy, whose places and networks the writes to the front can't alter, stays in registers
+        let change = *self.change;
         let sweep = self.number;
         let mut count = 0;
         for link in 0..change.after.links().len() {
             let pair = Pair {
-                change,
+                change: &change,
                 sweep,
                 link,
             };
