@@ -94,34 +94,19 @@ all_places_are net = record {
       get_or-map-range_with_len (places_at net) 0 (length net.links) l l (places_at net l) inside (omega arith);
 }
 
-all_inside : (net : Network) → 0 < length net.links → (feeds : List Feed)
+-- each feeder of a link, and the link of its rule, is a link
+pub feeders_inside : (net : Network) → 0 < length net.links → (feeds : List Feed)
     → All (λ j. j < length net.links) (map (feeder_place net) feeds)
-all_inside net some [] = All-nil (λ j. j < length net.links)
-all_inside net some (f ∷ fs) =
+feeders_inside net some [] = All-nil (λ j. j < length net.links)
+feeders_inside net some (f ∷ fs) =
     All-cons (λ j. j < length net.links) (feeder_place net f) (map (feeder_place net) fs)
     (link_place-lt net f.feeder some)
-    (all_inside net some fs)
+    (feeders_inside net some fs)
 
--- each feeder of a link, and the link of its rule, is a link
-pub feeders_inside : (net : Network) (l count : ℕ) (places : PlacesValue) → 0 < length net.links
-    → length net.links ≡ count → places ≡ places_at net l → All (λ j. j < count) places.feeders
-feeders_inside net l count places some same is =
-    subst (λ n. All (λ j. j < n) places.feeders) same
-    (subst (λ (p : PlacesValue). All (λ j. j < length net.links) p.feeders) (sym is)
-    (all_inside net some (link_of net l).feeds))
-
-rule_there : (net : Network) → 0 < length net.links → (rule : Option GiveWay)
+pub rule_inside : (net : Network) → 0 < length net.links → (rule : Option GiveWay)
     → IfSome (rule_place net rule) (λ j. j < length net.links)
-rule_there net some None = tt
-rule_there net some (Some rule) = link_place-lt net rule.other some
-
--- the place of the link to which a rule gives way is that of a link
-pub rule_inside : (net : Network) (l count : ℕ) (places : PlacesValue) → 0 < length net.links
-    → length net.links ≡ count → places ≡ places_at net l → IfSome places.rule (λ j. j < count)
-rule_inside net l count places some same is =
-    subst (λ n. IfSome places.rule (λ j. j < n)) same
-    (subst (λ (p : PlacesValue). IfSome p.rule (λ j. j < length net.links)) (sym is)
-    (rule_there net some (link_of net l).gives_way))
+rule_inside net some None = tt
+rule_inside net some (Some rule) = link_place-lt net rule.other some
 
 rule_after : (feeders : List ℕ) (rule : Option ℕ)
     → slice_get (feeders ++ option_to_list rule) (length feeders) ≡ rule

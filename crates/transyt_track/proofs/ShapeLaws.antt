@@ -78,8 +78,8 @@ module _ (a b : Network) (same : SameShape a b) where
   reads_inside l count inside is =
       let some : 0 < length a.links = omega (arith, shape_count) in
       let same_count : length a.links ≡ count = shape_count ∙ is in (
-        feeders_inside a l count (places_at a l) some same_count refl,
-        rule_inside a l count (places_at a l) some same_count refl,
+        subst (λ n. All (λ j. j < n) (places_at a l).feeders) same_count (feeders_inside a some (link_of a l).feeds),
+        subst (λ n. IfSome (places_at a l).rule (λ j. j < n)) same_count (rule_inside a some (link_of a l).gives_way),
       )
 
   -- so what is read from the table is a link's in both
