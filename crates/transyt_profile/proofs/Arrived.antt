@@ -41,33 +41,30 @@ arrived_whole g n t k inside =
     grind (arith, nat_tests, far, near)
 
 -- with the whole turn past, it is the arriving profile
-arriving_at : (p : Platoon) (i k : ℕ) → i ≡ steps_of p → k < steps_of p
-    → get_or (arriving p) k 0 ≡ arrived i k p + arrived i (steps_of p + k) p
-arriving_at p i k end inside =
+arriving_at : (p : Platoon) (n k : ℕ) → steps_of p ≡ n → k < n
+    → get_or (arriving p) k 0 ≡ arrived n k p + arrived n (n + k) p
+arriving_at p n k own inside =
     let t : ℕ = p.travel.now.time in
-    let n : ℕ = steps_of p in
     let xs : List ℕ = sent p in
-    let same : length xs ≡ n = length-sent p in
-    let below : k < length xs = omega (arith, same, inside) in
+    let same : length xs ≡ steps_of p = length-sent p in
+    let below : k < length xs = omega (arith, same, own, inside) in
     get_or-map-range_with_len (dispersed_at xs t p.travel.now.percent) 0 (length xs) k k 0 below (omega arith)
     ∙ ap (λ m. gone_by p (m + 1 + minus_mod m k t)) same
-    ∙ sym (arrived_whole (λ m. gone_by p (n + 1 + m)) n t k inside)
-    ∙ ap (λ m. arrived m k p + arrived m (n + k) p) (sym end)
+    ∙ sym (arrived_whole (λ m. gone_by p (steps_of p + 1 + m)) (steps_of p) t k (omega (arith, own, inside)))
+    ∙ ap (λ m. arrived m k p + arrived m (m + k) p) own
 
 -- so is it of each of some platoons
-pub arriving_each : (n i k : ℕ) (ps : List Platoon) → All (λ p. steps_of p ≡ n) ps → i ≡ n → k < n
-    → sum_by (λ p. get_or (arriving p) k 0) ps ≡ sum_by (arrived i k) ps + sum_by (arrived i (n + k)) ps
-arriving_each n i k [] same end inside = refl
-arriving_each n i k (p ∷ ps) same end inside =
-    let own : steps_of p ≡ n = same 0 p (omega arith) in
+pub arriving_each : (n k : ℕ) (ps : List Platoon) → All (λ p. steps_of p ≡ n) ps → k < n
+    → sum_by (λ p. get_or (arriving p) k 0) ps ≡ sum_by (arrived n k) ps + sum_by (arrived n (n + k)) ps
+arriving_each n k [] same inside = refl
+arriving_each n k (p ∷ ps) same inside =
     omega (
       arith,
       sum_by-cons (λ q. get_or (arriving q) k 0) p ps,
-      sum_by-cons (arrived i k) p ps,
-      sum_by-cons (arrived i (n + k)) p ps,
-      arriving_at p i k (end ∙ sym own) (omega (arith, inside, own)),
-      ap (λ m. arrived i (m + k) p) own,
-      arriving_each n i k ps (λ q d below. same (suc q) d (omega (arith, below))) end inside,
+      sum_by-cons (arrived n k) p ps,
+      sum_by-cons (arrived n (n + k)) p ps,
+      arriving_at p n k (same 0 p (omega arith)) inside,
+      arriving_each n k ps (λ q d below. same (suc q) d (omega (arith, below))) inside,
     )
 
 -- before the first step nothing has arrived

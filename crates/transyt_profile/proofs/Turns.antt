@@ -1,9 +1,9 @@
 -- A platoon that goes by twice, step by step.
-use Rattle.std.proofs.Common.{◌≡◌, ℕ, ◌+◌, ◌*◌, ◌^◌, ◌<◌, length, get_or, sym, subst, arith}
+use Rattle.std.proofs.Common.{◌≡◌, ℕ, ◌+◌, ◌*◌, ◌^◌, ◌<◌, List, length, get_or, sym, subst, arith}
 use Rattle.std.proofs.lemmas.List.{length-map}
 use Rattle.transyt_profile.specs.Profile.{share_of}
 use Rattle.transyt_profile.specs.Arriving.{sent}
-use Rattle.transyt_profile.specs.Passing.{Fits, gone_by, HasPassed, product_at, steps_of}
+use Rattle.transyt_profile.specs.Passing.{Fits, gone_by, HasPassed, HavePassed, product_at, steps_of}
 use Rattle.transyt_profile.specs.Platoon.{mixed}
 use Rattle.transyt_profile.specs.declared.passing.Passing.{Passing}
 use Rattle.transyt_profile.specs.declared.platoon.Platoon.{Platoon}
@@ -28,6 +28,10 @@ second_gone p i below =
 -- the value that went by after as many steps
 pub passed_at : (p : Platoon) (i j : ℕ) (g : Passing) → i ≡ j → HasPassed p i g → HasPassed p j g
 passed_at p i j g same passed = subst (λ (k : ℕ). HasPassed p k g) same passed
+
+-- so of some platoons
+pub have_passed_at : (ps : List Platoon) (i j : ℕ) (gs : List Passing) → i ≡ j → HavePassed ps i gs → HavePassed ps j gs
+have_passed_at ps i j gs same passed = subst (λ (k : ℕ). HavePassed ps k gs) same passed
 
 -- each step that sets out is below the limit of its travel
 pub sent_fits : (p : Platoon) (i : ℕ) → Fits p → i < steps_of p → get_or (sent p) i 0 < p.travel.now.limit

@@ -1,7 +1,8 @@
 //! Platoons dispersed side by side.
 
-ghost use Rattle.std.specs.Prelude.{◌≡◌, ℕ, ◌+◌, ◌*◌, ◌^◌, ◌<◌, ◌≤◌, length, All, Any, IsTrue};
+ghost use Rattle.std.specs.Prelude.{◌≡◌, ℕ, ◌+◌, ◌*◌, ◌^◌, ◌<◌, ◌≤◌, length, slice_index, sum_by, All, Any, IsTrue};
 ghost use Rattle.transyt_profile.specs.Arriving.{sent, with_arriving};
+ghost use Rattle.transyt_profile.specs.Passing.{HavePassed, arrived};
 ghost use Rattle.transyt_profile.specs.Profile.{folded};
 
 use crate::abreast::fill_lanes;
@@ -78,11 +79,40 @@ impl<const N: usize> Abreast<'_, N> {
             (folded self.now.ready.step_count turns.new) }
     {
         let mut goings: [Passing; N] = self.begin_each();
-        'first: for step in 0..self.ready.step_count {
-            self.pass_each(step, &mut goings);
+        self.pass_turn(&mut goings);
+        self.arrive_turn(&mut goings, turns);
+    }
+
+    /// The first turn of each platoon goes by, two steps at a time, so that there are half as many rounds of the loop.
+    fn pass_turn(&self, goings: &mut [Passing; N])
+        requires { HavePassed self.now.ready.platoons.now 0 goings.old }
+        ensures { HavePassed self.now.ready.platoons.now self.now.ready.step_count goings.new }
+    {
+        let step_count = self.ready.step_count;
+        for pair in 0..step_count / 2 {
+            self.pass_each(2 * pair, goings);
+            self.pass_each(2 * pair + 1, goings);
         }
-        'second: for step in 0..self.ready.step_count {
-            self.arrive_each(step, &mut goings, turns);
+        if step_count % 2 == 1 {
+            self.pass_each(step_count - 1, goings);
+        }
+    }
+
+    /// The second turn of each platoon goes by, two steps at a time too, and each is added where it arrives.
+    fn arrive_turn(&self, goings: &mut [Passing; N], turns: &mut [u64])
+        requires passed { HavePassed self.now.ready.platoons.now self.now.ready.step_count goings.old }
+        requires turns_len { length turns.old ≡ 2 * self.now.ready.step_count }
+        requires fit { All (λ v. v < 2 ^ 48) turns.old }
+        ensures { (j : ℕ) → slice_index turns.new j ≡ slice_index turns.old j
+            + sum_by (arrived self.now.ready.step_count j) self.now.ready.platoons.now }
+    {
+        let step_count = self.ready.step_count;
+        for pair in 0..step_count / 2 {
+            self.arrive_each(2 * pair, goings, turns);
+            self.arrive_each(2 * pair + 1, goings, turns);
+        }
+        if step_count % 2 == 1 {
+            self.arrive_each(step_count - 1, goings, turns);
         }
     }
 }
