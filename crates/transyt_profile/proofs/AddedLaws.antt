@@ -3,7 +3,6 @@ use Rattle.std.proofs.Common.{◌≡◌, ℕ, suc, ◌+◌, ◌-◌, ◌*◌, �
 use Rattle.std.proofs.Common.{ap, ◌∙◌, sym, arith}
 use Rattle.std.specs.List.{All}
 use Rattle.std.proofs.lemmas.List.{ext_get_or, get_or_default}
-use Rattle.std.proofs.lemmas.Grind.{elements}
 use Rattle.std.proofs.lemmas.List.Sums.{sum_by-cons}
 use Rattle.std.proofs.lemmas.List.FromFn.{get_or-map-range_with_len, length-map-range_with_len}
 use Rattle.transyt_profile.specs.Profile.{added, added_at, folded}
@@ -28,8 +27,15 @@ get_or-folded n turns i inside = get_or-map-range_with_len _ 0 n i i 0 inside (o
 -- a limit on what stood goes up by the limit on what is added
 pub added_grows : (xs ys : List ℕ) (limit more : ℕ) → length ys ≡ length xs → All (λ v. v < limit) xs
     → All (λ v. v < more) ys → All (λ v. v < limit + more) (added xs ys)
-added_grows xs ys limit more same within small =
-    grind (arith, elements, length-added xs ys, get_or-added xs ys)
+added_grows xs ys limit more same within small k d h =
+    let inside : k < length xs = omega (arith, h, length-added xs ys) in
+    omega (
+      arith,
+      get_or_default (added xs ys) k d 0 h,
+      get_or-added xs ys k inside,
+      within k 0 inside,
+      small k 0 (omega (arith, inside, same)),
+    )
 
 -- each value of two turns is within that of their fold
 pub folded_first : (n : ℕ) (turns : List ℕ) (limit k : ℕ) → All (λ v. v < limit) (folded n turns) → k < n

@@ -38,9 +38,8 @@ pub(crate) fn share_ready(lane: &Lane<'_>, lanes: &mut [u64]) -> Option<u64>
     let Lane { platoon, number } = *lane;
     let part = platoon.part;
     if part.quick {
-        let total = share_below(lane, lanes);
-        if total.is_some() {
-            return total;
+        if let Some(total) = share_below(lane, lanes) {
+            return Some(total);
         }
     }
     // Any part: the greatest share is compared, since all bits together can reach the limit though no share does.

@@ -41,3 +41,14 @@ loop-number-preserved c =
           get_or-set_other totals k i total 0 (λ same. omega (arith, same, low))
           ∙ c.loop-number.invariant.totals i low d inside);
     }
+
+-- all are ready
+pub returns-clause-ready : goal.returns-clause-ready
+returns-clause-ready c = λ yes. record {
+  same = c.args.group.now.same;
+  fit = λ i d inside. c.loop-number.invariant.fit i (omega (arith, inside)) d inside;
+  ready = λ i d inside. c.loop-number.invariant.ready i (omega (arith, inside)) d inside;
+}
+
+pub returns-clause-totals : goal.returns-clause-totals
+returns-clause-totals c = λ yes i d inside. c.loop-number.invariant.totals i (omega (arith, inside)) d inside

@@ -1,5 +1,5 @@
 -- One step more, and the sum of all.
-use Rattle.std.proofs.Common.{rules, ◌*◌, ◌∙◌, ap, arith}
+use Rattle.std.proofs.Common.{below_more, ◌*◌, ◌∙◌, ap, arith}
 use Rattle.std.proofs.lemmas.List.Sums.{sum_by_more}
 use Rattle.transyt_profile.specs.Profile.{share_of}
 use Rattle.transyt_profile.proofs.Parts.{start_fits}
@@ -12,9 +12,9 @@ loop-i-preserved c =
     let share = share_of c.args.lane.now.platoon.now.part.now.part c.args.lane.now.platoon.now.part.now.whole in
     let is = c.share_step-share.ensures.value in
     record {
-      most = search rules;
+      most = below_more _ _ (λ k below. omega (arith, c.loop-i.invariant.most k below)) (omega (arith, is));
       reached = reached_more _ _ _ _ _ (omega arith) is c.loop-i.invariant.reached;
-      greatest = search rules;
+      greatest = omega (arith, c.loop-i.invariant.greatest, c.share_step-share.ensures.small);
       ready = lane_more _ _ _ _ _ _ (omega (arith, c.requires, c.args.lane.now.within)) c.loop-i.invariant.ready
           (λ small. c.times.ensures (start_fits c.args.lane.now.platoon.now.travel.now _ (omega (arith, small, is))) ∙ ap (λ v. v * c.args.lane.now.platoon.now.travel.now.starting_factor) is);
       others = others_more _ _ _ _ _ c.args.lane.now.within c.loop-i.invariant.others;
@@ -42,3 +42,10 @@ returns-then-greatest-limit-clause-total c = c.loop-i.invariant.so_far ∙ sum_s
 pub returns-else-greatest-limit-clause-none : goal.returns-else-greatest-limit-clause-none
 returns-else-greatest-limit-clause-none c =
     any_shared _ _ c.loop-i.i c.loop-i.greatest _ c.args.lane.now.platoon.now.leaving.now c.args.lane.now.platoon.now.some (omega arith) c.loop-i.invariant.reached (omega arith)
+
+-- the other lanes stay in both attempts
+pub returns-then-greatest-limit-clause-others : goal.returns-then-greatest-limit-clause-others
+returns-then-greatest-limit-clause-others c = λ k m small other. grind (arith, c.loop-i.invariant.others k m small other)
+
+pub returns-else-greatest-limit-clause-others : goal.returns-else-greatest-limit-clause-others
+returns-else-greatest-limit-clause-others c = λ k m small other. grind (arith, c.loop-i.invariant.others k m small other)
