@@ -53,28 +53,6 @@ pub adds_taken : (part : Part) (card : Card) (net : Network) → (card ≡ c.End
     → fault_of net card ≡ None → added part net card ≡ Ok (part_of card, net_with net card)
 adds_taken part card net early fit none = added_by part net card early ∙ taken_in _ _ _ _ fit none
 
--- where a deck has come to a part that takes a card, the network with the card fits the part of the card
-pub tied_after : (part : Part) (card : Card) (old new : Network) → (card ≡ c.End → ⊥) → IsTied part old
-    → takes part card ≡ true → new ≡ net_with old card → length old.nodes ≤ length new.nodes
-    → IsTied (part_of card) new
-tied_after p.Frame (c.Node number offset) old new early tied fit is more = grind (arith, common_steps)
-tied_after p.Nodes (c.Node number offset) old new early tied fit is more = grind (arith, common_steps)
-tied_after p.Nodes (c.Stage stage) old new early tied fit is more = grind (arith, common_steps)
-tied_after p.Frame (c.Link link stages) old new early tied fit is more = grind (arith, common_steps)
-tied_after p.Nodes (c.Link link stages) old new early tied fit is more = grind (arith, common_steps)
-tied_after p.Links (c.Link link stages) old new early tied fit is more = grind (arith, common_steps)
-tied_after p.Frame (c.Feed link feed) old new early tied fit is more = grind (arith, common_steps)
-tied_after p.Nodes (c.Feed link feed) old new early tied fit is more = grind (arith, common_steps)
-tied_after p.Links (c.Feed link feed) old new early tied fit is more = grind (arith, common_steps)
-tied_after p.Feeds (c.Feed link feed) old new early tied fit is more = grind (arith, common_steps)
-tied_after p.Frame (c.Yield link rule) old new early tied fit is more = grind (arith, common_steps)
-tied_after p.Nodes (c.Yield link rule) old new early tied fit is more = grind (arith, common_steps)
-tied_after p.Links (c.Yield link rule) old new early tied fit is more = grind (arith, common_steps)
-tied_after p.Feeds (c.Yield link rule) old new early tied fit is more = grind (arith, common_steps)
-tied_after part (c.Steps budget sizes) old new early tied fit is more = tt
-tied_after part c.End old new early tied fit is more = absurd (early refl)
-tied_after part card old new early tied fit is more = absurd (cc)
-
 -- the count of a deck at a state
 pub count_at : (n : ℕ) (state : State) → line_count (deck_at n state) ≡ n
 count_at n (s.Making form p.End net) = refl

@@ -29,12 +29,6 @@ CanAdd (c.Link link stages) = (1 ≤ length stages) × (length stages ≤ 8)
 CanAdd (c.Steps budget sizes) = (1 ≤ length sizes) × (length sizes ≤ 16)
 CanAdd _ = Unit {0}
 
--- a STAGE card finds a node, and a STEPS card no plan
-abbrev pub IsReadyFor : Card → Network → Type 0
-IsReadyFor (c.Stage stage) net = 0 < length net.nodes
-IsReadyFor (c.Steps budget sizes) net = net.plan ≡ None
-IsReadyFor _ net = Unit {0}
-
 -- the network by the part of a deck: a STAGE card finds a node, a STEPS card no plan, and END judged the plans
 abbrev pub IsTied : Part → Network → Type 0
 IsTied p.Nodes net = (0 < length net.nodes) × (net.plan ≡ None)

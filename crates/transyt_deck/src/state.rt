@@ -1,13 +1,13 @@
 //! The state of a deck after its cards so far, and after one card more.
-ghost use Rattle.std.specs.Prelude.{◌≡◌, ◌≤◌, ℕ, length, OnOk, OnErr, IfOk, IfErr, Ok, Err, Some, true, false};
+ghost use Rattle.std.specs.Prelude.{◌≡◌, ◌≢◌, ℕ, OnOk, OnErr, IfOk, IfErr, Ok, Err, Some, true, false};
 ghost use Rattle.transyt_deck.specs.Deck.{deck_at, is_open, is_complete};
 ghost use Rattle.transyt_net.specs.Faults.{Refuses};
-ghost use Rattle.transyt_deck.specs.declared.card.Card.TheVariants as card;
+ghost use Rattle.transyt_deck.specs.declared.card.Card.TheVariants.{End};
 ghost use Rattle.transyt_deck.specs.declared.state.State.TheVariants as state;
 ghost use Rattle.transyt_deck.specs.State.{rank, up_to, part_of, takes, fault_of, net_with, added, plan_code};
 ghost use Rattle.transyt_deck.specs.State.{form_of, framed, state_with, state_after};
 ghost use Rattle.transyt_deck.specs.declared.state.Stop.TheVariants as stop;
-ghost use Rattle.transyt_deck.specs.Adds.{Adds, CanAdd, IsReadyFor, IsTied, IsTiedState, stopped};
+ghost use Rattle.transyt_deck.specs.Adds.{Adds, CanAdd, IsTied, IsTiedState, stopped};
 
 use crate::card::{Card, card_in_range, read_card};
 use crate::so_far::SoFar;
@@ -251,19 +251,21 @@ fn add_to(part: &mut Part, draft: &mut Draft, card: &Card) -> Result<(), Stop<Co
     if !part.takes(card) {
         return Err(Stop::Code(Code::OutOfPlace));
     }
-    stopped(enter(draft, card))?;
+    stopped(enter(*part, draft, card))?;
     *part = Part::of(card);
     Ok(())
 }
 
-/// Enters a card before END in the draft; a card with a fault changes nothing.
-fn enter(draft: &mut Draft, card: &Card) -> Result<(), DraftFault>
-    requires ready { IsReadyFor card.now draft.old }
+/// Enters a card before END in the draft of a deck that has come to this part; a card with a fault changes nothing.
+fn enter(part: Part, draft: &mut Draft, card: &Card) -> Result<(), DraftFault>
+    requires tied { IsTied part draft.old }
+    requires takes { takes part card.now ≡ true }
+    requires early { card.now ≢ End }
     requires counts { CanAdd card.now }
     ensures refuses { Refuses result (fault_of draft.old card.now) (Some DraftFault.Memory) }
     ensures ok { OnOk result (draft.new ≡ net_with draft.old card.now) }
     ensures err { OnErr result (draft.new ≡ draft.old) }
-    ensures nodes { length draft.old.nodes ≤ length draft.new.nodes }
+    ensures tied { OnOk result (IsTied (part_of card.now) draft.new) }
 {
     match card {
         Card::Form(_) | Card::Cycle(_) | Card::End => Ok(()),
@@ -278,7 +280,7 @@ fn enter(draft: &mut Draft, card: &Card) -> Result<(), DraftFault>
 
 /// An END card: the stage plans are judged, node by node.
 fn end(part: &mut Part, draft: &Draft) -> Result<(), Stop<Code>>
-    ensures adds { Adds (added part.old draft.now card.End)
+    ensures adds { Adds (added part.old draft.now End)
         (part.old, draft.now) (part.new, draft.now) result }
     ensures tied { OnOk result (IsTied part.new draft.now) }
     ensures kept { OnErr result (part.new ≡ part.old) }

@@ -1,6 +1,6 @@
 -- The draft refuses a card by the fault that the deck refuses it by, else it has what the card brings.
 use Rattle.std.proofs.Common.{rules, sym, ◌∙◌}
-use Rattle.transyt_deck.proofs.Adding.{adds_stopped, adds_taken, tied_after}
+use Rattle.transyt_deck.proofs.Adding.{adds_stopped, adds_taken}
 use Rattle.transyt_deck.proofs.state.add_to.Goals as goal
 
 -- the network refuses the card, or has no memory for it
@@ -13,6 +13,3 @@ returns-in_err-stopped-clause-adds c =
 -- the network has what the card brings
 pub returns-clause-adds : goal.returns-clause-adds
 returns-clause-adds c = search (rules, adds_taken)
-
-pub returns-clause-stays_tied : goal.returns-clause-stays_tied
-returns-clause-stays_tied c = search (rules, tied_after)
