@@ -30,7 +30,7 @@ sys.dont_write_bytecode = True
 HERE = os.path.dirname(os.path.realpath(__file__))
 # A check takes up to 2 GB.
 BYTES_A_CHECK = 2 << 30
-# Crates of so many lines get a second job: it takes a third off them, and a short one spends its time on loading.
+# Crates of so many lines get more than one job; a short one spends its time on loading.
 LONG = 2000
 # Each crate loads those below it, and the program loads all: what that costs beside its lines, in lines.
 LOADING, PROGRAM = 600, 2500
@@ -190,9 +190,10 @@ class Crates:
     def start_ready(self):
         """Starts the crates whose turn it is.
 
-        A second job takes a third off a long crate and costs a third more of processors. Any long crate has one where a
-        processor would have nothing to do. With three processors and more, so has the crate with the longest chain above it,
-        where that chain is longer than a processor's share of all that is left; two processors are better off with two crates.
+        Four jobs bring a long crate to half its time and less, for a third more of processors. With three processors and
+        more, the crate with the longest chain above it has one for each, where that chain is longer than a processor's
+        share of all that is left; it counts as two at most, so that others have their turn. Any other long crate has one
+        for each processor that would have nothing to do. Two processors are better off with two crates.
         """
         ready = [it for it in self.all if it not in self.done and it not in self.going and self.done.issuperset(it.deps)]
         for at, crate in enumerate(sorted(ready, key=lambda it: -self.chain[it])):
@@ -200,11 +201,11 @@ class Crates:
             if idle <= 0:
                 return
             longest = max([self.share(), *(self.chain[it] for it in [*ready, *self.going])])
-            leads = self.jobs > 2 and at == 0 and self.chain[crate] >= longest
-            wants_two = leads or idle // (len(ready) - at) >= 2
-            jobs = 2 if wants_two and self.lines[crate] >= LONG else 1
-            self.going[crate] = jobs
-            threading.Thread(target=self.build, args=(crate, jobs)).start()
+            is_long = self.lines[crate] >= LONG
+            leads = is_long and self.jobs > 2 and at == 0 and self.chain[crate] >= longest
+            share = max(1, idle // (len(ready) - at)) if is_long else 1
+            self.going[crate] = min(share, 2) if leads else share
+            threading.Thread(target=self.build, args=(crate, self.jobs if leads else share)).start()
 
     def build_all(self):
         """Builds all libraries, and returns the name of a crate that failed, or none."""
