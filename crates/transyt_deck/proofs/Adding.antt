@@ -1,6 +1,6 @@
 -- A card that the network refuses, and the deck after a line.
 use Rattle.std.proofs.Common.{◌≡◌, ℕ, zero, suc, ◌+◌, List, [], ◌∷◌, ◌++◌, true, Result, Ok, Err}
-use Rattle.std.proofs.Common.{refl, not, is_some, IsOk, Bool, Option, Some, None, OnErr, arith, sym, subst, ◌∙◌, ◌≤◌, length}
+use Rattle.std.proofs.Common.{refl, not, is_some, IsOk, Bool, Option, Some, None, OnErr, arith, sym, subst, ◌∙◌}
 use Rattle.std.specs.List.{fold}
 use Rattle.std.proofs.lemmas.List.Sums.{fold-append}
 use Rattle.transyt_io.specs.Lines.{after_first_line}
@@ -18,7 +18,7 @@ use Rattle.transyt_net.specs.declared.draft.DraftFault.{DraftFault}
 use Rattle.transyt_net.specs.declared.draft.DraftFault.TheVariants.{Memory}
 use Rattle.transyt_deck.specs.declared.state.Part.{Part}
 use Rattle.transyt_deck.specs.declared.state.Stop.{Stop}
-use Rattle.transyt_deck.specs.Adds.{Adds, IsTied, stopped}
+use Rattle.transyt_deck.specs.Adds.{Adds, stopped}
 use Rattle.transyt_deck.specs.Deck.{after_lines, Complete, Deck, Open, Refused, deck, deck_at, deck_by, start, code_of}
 use Rattle.transyt_deck.specs.Deck.{is_complete, is_open, line_count, next}
 use Rattle.transyt_deck.specs.State.{placed, takes, fault_of, part_of, net_with, added, state_after}
