@@ -18,11 +18,11 @@ use Rattle.transyt_net.specs.Valid.{IsFeed, feeds_at, is_among, link_numbers}
 use Rattle.transyt_deck.specs.declared.card.Card.TheVariants as c
 use Rattle.transyt_deck.specs.declared.state.Part.TheVariants as p
 use Rattle.transyt_deck.specs.Cards.{feed_cards}
-use Rattle.transyt_deck.proofs.LinkBlocks.{bare, fed, middle, moved, state, with_feeds}
+use Rattle.transyt_deck.proofs.LinkBlocks.{bare, fed, links_to, middle, moved, state, with_feeds}
 use Rattle.transyt_deck.proofs.LinkNumbers.{key_apart}
 use Rattle.transyt_deck.proofs.NodeBlocks.{is_added}
 use Rattle.transyt_deck.proofs.NumberTexts.{is_small}
-use Rattle.transyt_deck.proofs.Reading.{Reads, Upto, reads_each, reads_map, reads_more, reads_none, reads_to}
+use Rattle.transyt_deck.proofs.Reading.{Reads, Upto, reads_each, reads_map, reads_more, reads_none}
 use Rattle.transyt_deck.proofs.Small.{AreLinks, IsOne, small_le, small_named}
 
 feed_true : (numbers : List ℕ) (f : Feed) → IsFeed numbers f → feed_in_range f ≡ true
@@ -85,7 +85,8 @@ pub feeds_read : (net : Network) (part : Upto p.Feeds) → all_differ (link_numb
     → (q : Upto p.Feeds) × Reads (state net part.0 (map bare net.links)) (flat_map feed_cards net.links)
     (state net q.0 (map fed net.links))
 feeds_read net part once valid =
-    let read = reads_each net.links (IsOne net) feed_cards
+    links_to net (append-nil (map fed net.links))
+    (reads_each net.links (IsOne net) feed_cards
     (λ (q : Upto p.Feeds) (done more : List LinkValue). state net q.0 (map fed done ++ map bare more))
     (λ q done more l whole is.
     let in_middle = middle net done more l whole once in
@@ -97,7 +98,5 @@ feeds_read net part once valid =
           ∙ sym (map-append link_number done (l ∷ more)) ∙ ap link_numbers whole;
       there = in_middle.there;
     } in
-    let here = feeds_one net q (map fed done) (map bare more) l of_link is in
-    (here.0, reads_to here.1 (ap (λ (ls : List LinkValue). state net here.0.0 ls) (moved fed bare done more l))))
-    part [] net.links refl valid in
-    (read.0, reads_to read.1 (ap (λ (ls : List LinkValue). state net read.0.0 ls) (append-nil (map fed net.links))))
+    links_to net (moved fed bare done more l) (feeds_one net q (map fed done) (map bare more) l of_link is))
+    part [] net.links refl valid)

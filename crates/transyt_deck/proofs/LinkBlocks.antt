@@ -1,6 +1,6 @@
 -- The LINK cards of a valid network make its links again, without feeds and rules.
 use Rattle.std.proofs.Common.{◌≡◌, ℕ, suc, ◌<◌, ◌≤◌, nat_le, List, [], ◌∷◌, ◌++◌, map, length, true, false}
-use Rattle.std.proofs.Common.{cond, not, ◌&&◌, Some, None, Ok, refl, sym, ◌∙◌, ap, arith, append_assoc}
+use Rattle.std.proofs.Common.{cond, not, ◌&&◌, Some, None, Ok, refl, sym, subst, ◌∙◌, ap, arith, append_assoc}
 use Rattle.std.proofs.Common.{length-append, All}
 use Rattle.std.specs.List.{list_all}
 use Rattle.std.proofs.lemmas.List.{map-append, length-map}
@@ -14,6 +14,7 @@ use Rattle.transyt_parts.specs.Valid.{IsNode, all_differ, link_number, node_numb
 use Rattle.transyt_net.specs.declared.draft.DraftFault.TheVariants.{Range, TooMany, Twice, Unknown}
 use Rattle.transyt_net.specs.Parts.{Network, network_of}
 use Rattle.transyt_net.specs.Valid.{IsLink, is_among, link_numbers, node_numbers, stages_at}
+use Rattle.transyt_deck.specs.declared.card.Card.{Card}
 use Rattle.transyt_deck.specs.declared.state.Part.{Part}
 use Rattle.transyt_deck.specs.declared.state.Part.TheVariants as p
 use Rattle.transyt_deck.specs.declared.state.State.{State}
@@ -40,6 +41,12 @@ with_feeds l fs = record l { feeds = fs; gives_way = None }
 -- the state with all nodes of a network and these links
 abbrev pub state : Network → Part → List LinkValue → State
 state net part ls = s.Making 2 part (network_of net.frame net.nodes ls None)
+
+-- cards that come to equal links
+pub links_to : {s : State} {cards : List Card} {xs ys : List LinkValue} (net : Network) → xs ≡ ys
+    → (q : Upto p.Feeds) × Reads s cards (state net q.0 xs) → (q : Upto p.Feeds) × Reads s cards (state net q.0 ys)
+links_to {s} {cards} net same read =
+    subst (λ (ls : List LinkValue). (q : Upto p.Feeds) × Reads s cards (state net q.0 ls)) same read
 
 link_true : (steps : ℕ) (nodes : List NodeValue) (numbers : List ℕ) (l : LinkValue) → IsLink steps nodes numbers l
     → link_in_range steps l ≡ true

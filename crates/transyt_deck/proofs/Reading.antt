@@ -99,10 +99,6 @@ reads_both {s} {t} {u} {xs} {ys} a b = record {
       ∙ b.is (n + length xs) rest ∙ ap (λ (k : ℕ). fold next (Open k u) (lines rest)) count;
 }
 
--- cards that come to an equal state
-pub reads_to : {s t u : State} {cards : List Card} → Reads s cards t → t ≡ u → Reads s cards u
-reads_to {s} {t} {u} {cards} read same = subst (λ (v : State). Reads s cards v) same read
-
 -- a part that is not past this one
 abbrev pub Upto : Part → Type 0
 Upto last = (part : Part) × (up_to last part ≡ true)

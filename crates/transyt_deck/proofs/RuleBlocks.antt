@@ -15,10 +15,10 @@ use Rattle.transyt_net.proofs.AfterLaws.{numbered_after, on_numbered_after}
 use Rattle.transyt_deck.specs.declared.card.Card.TheVariants as c
 use Rattle.transyt_deck.specs.declared.state.Part.TheVariants as p
 use Rattle.transyt_deck.specs.Cards.{rule_cards}
-use Rattle.transyt_deck.proofs.LinkBlocks.{fed, middle, state}
+use Rattle.transyt_deck.proofs.LinkBlocks.{fed, links_to, middle, state}
 use Rattle.transyt_deck.proofs.NodeBlocks.{is_added}
 use Rattle.transyt_deck.proofs.NumberTexts.{is_small}
-use Rattle.transyt_deck.proofs.Reading.{Reads, Upto, reads_each, reads_more, reads_none, reads_to}
+use Rattle.transyt_deck.proofs.Reading.{Reads, Upto, reads_each, reads_more, reads_none}
 use Rattle.transyt_deck.proofs.Small.{AreLinks, IsOne, small_le, small_named}
 
 -- the YIELD card of one link, if it has one
@@ -60,7 +60,8 @@ pub rules_read : (net : Network) (part : Upto p.Feeds) → all_differ (link_numb
     → (q : Upto p.Feeds)
     × Reads (state net part.0 (map fed net.links)) (flat_map rule_cards net.links) (state net q.0 net.links)
 rules_read net part once valid =
-    let read = reads_each net.links (IsOne net) rule_cards
+    links_to net (append-nil net.links)
+    (reads_each net.links (IsOne net) rule_cards
     (λ (q : Upto p.Feeds) (done more : List LinkValue). state net q.0 (done ++ map fed more))
     (λ q done more l whole is.
     let in_middle = middle net done more l whole once in
@@ -68,7 +69,6 @@ rules_read net part once valid =
     (λ j. link_numbers done ++ l.number ∷ map-map link_number fed more j)
     ∙ sym (map-append link_number done (l ∷ more)) ∙ ap link_numbers whole in
     let small = small_le 99999 l.number is.number.1 (omega arith) in
-    let here = rule_one net q done (map fed more) l l.gives_way valid small in_middle.before names in_middle.there is.rule in
-    let joined = sym (append_assoc done (l ∷ []) (map fed more)) in
-    (here.0, reads_to here.1 (ap (λ (ls : List LinkValue). state net here.0.0 ls) joined))) part [] net.links refl valid in
-    (read.0, reads_to read.1 (ap (λ (ls : List LinkValue). state net read.0.0 ls) (append-nil net.links)))
+    links_to net (sym (append_assoc done (l ∷ []) (map fed more)))
+    (rule_one net q done (map fed more) l l.gives_way valid small in_middle.before names in_middle.there is.rule))
+    part [] net.links refl valid)
