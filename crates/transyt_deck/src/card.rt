@@ -111,14 +111,13 @@ fn entry_named(form: u32, keyword: &[u8], ns: &Numbers) -> Option<((usize, usize
 fn frame_of(ns: &Numbers) -> Frame
     ensures { result ≡ frame_of ns.now }
 {
-    let numbers = ns.as_slice();
     Frame {
         cycle: ns.at(0),
         step_count: ns.at(1),
         sweeps: ns.at(2),
         period: ns.at(3),
         stop_penalty: ns.at(4),
-        dispersion: if numbers.len() > 5 { numbers[5] } else { 35 },
+        dispersion: ns.as_slice().get(5).copied().unwrap_or(35),
     }
 }
 
