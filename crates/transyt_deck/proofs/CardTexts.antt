@@ -19,8 +19,7 @@ use Rattle.transyt_deck.specs.declared.card.Card.{Card}
 use Rattle.transyt_deck.specs.declared.card.Card.TheVariants as c
 use Rattle.transyt_io.specs.Forms.{values_text}
 use Rattle.transyt_deck.specs.Cards.{card_text, card_words, cards}
-use Rattle.transyt_deck.proofs.NumberTexts.{is_small, numbers_back, numbers_plain, numbers_short}
-use Rattle.transyt_deck.proofs.NumberTexts.{words_text}
+use Rattle.transyt_deck.proofs.NumberTexts.{is_small, numbers_back, numbers_plain, numbers_short, words_text}
 
 keyword_tests : (card : Card)
     → (list_all (λ b. not (is_blank b)) (card_words card).0 ≡ true) × (0 < length (card_words card).0)

@@ -77,8 +77,7 @@ pub middle : (net : Network) (done more : List LinkValue) (l : LinkValue) → do
     → all_differ (link_numbers net.links) ≡ true → IsMiddle net done more l
 middle net done more l whole once =
     let here : all_differ (link_numbers (done ++ l ∷ more)) ≡ true =
-    ap (λ (ls : List LinkValue). all_differ (link_numbers ls)) whole
-    ∙ once in
+    ap (λ (ls : List LinkValue). all_differ (link_numbers ls)) whole ∙ once in
     record {
       before = key_apart link_number done more l here;
       there = ap (λ (ls : List LinkValue). is_among (link_numbers ls) l.number) (sym whole)

@@ -42,8 +42,7 @@ rule_one net part us vs l (Some g) valid small apart names there fine =
     let percent = small_le 400 g.percent fine.percent (omega arith) in (
       (p.Feeds, refl),
       reads_more {s = state net part.0 links} {card = c.Yield l.number g} record {
-        small = λ j. small j
-            && (other j && (percent j && true));
+        small = λ j. small j && (other j && (percent j && true));
         few = omega arith;
         count = refl;
         back = refl;
