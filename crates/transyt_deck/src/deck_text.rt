@@ -19,7 +19,6 @@ use transyt_net::{ClimbPlan, Feed, Frame, Link, Net, Node, Stage};
 /// All numbers are those of the network as it stands. The text is this project's own. What `line` held is lost,
 /// and what it holds afterwards is unspecified. The lines of the text, taken by a `CardReader`, are accepted to the
 /// last, which is END, and give an equal network.
-#[tactic(auto, using(crate::proofs::ReadBack::deck_read_back))]
 pub fn print_deck<K: Sink>(net: &Net, line: &mut LineBuffer, sink: &mut K) -> Result<(), Failed>
     ensures prints { PrintsOn K.written K.faults sink.old sink.new result (deck_text net.now) }
     ensures reads_back { deck (lines (deck_text net.now))
