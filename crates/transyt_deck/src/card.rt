@@ -226,14 +226,12 @@ pub(crate) fn card_in_range(step_count: u32, card: &Card) -> Result<(), Found>
 fn frame_in_range(frame: Frame) -> Result<(), Found>
     ensures { IsOk result ↔ IsTrue (is_frame frame) }
 {
-    let cycle = NumberRange::new("cycle time", 30, 240).check(frame.cycle);
-    let step_count = NumberRange::new("number of steps", 10, 120).check(frame.step_count);
-    let sweeps = NumberRange::new("number of sweeps", 1, 8).check(frame.sweeps);
-    let period = NumberRange::new("period", 15, 120).check(frame.period);
-    let penalty = NumberRange::new("stop penalty", 0, 9999).check(frame.stop_penalty);
-    let dispersion = NumberRange::new("dispersion", 0, 100).check(frame.dispersion);
-    let begun = both(both(cycle, step_count), both(sweeps, period));
-    both(begun, both(penalty, dispersion))
+    NumberRange::new("cycle time", 30, 240).check(frame.cycle)?;
+    NumberRange::new("number of steps", 10, 120).check(frame.step_count)?;
+    NumberRange::new("number of sweeps", 1, 8).check(frame.sweeps)?;
+    NumberRange::new("period", 15, 120).check(frame.period)?;
+    NumberRange::new("stop penalty", 0, 9999).check(frame.stop_penalty)?;
+    NumberRange::new("dispersion", 0, 100).check(frame.dispersion)
 }
 
 /// The same of a STAGE card.
@@ -251,23 +249,13 @@ fn link_in_range(step_count: u32, link: NewLink) -> Result<(), Found>
     requires { 1 ≤ step_count }
     ensures { IsOk result ↔ IsTrue (link_in_range step_count (link_from link [])) }
 {
-    let number = NumberRange::new("link number", 1, 99_999).check(link.number);
-    let entry = NumberRange::new("entry flow", 0, 9999).check(link.entry);
-    let saturation = NumberRange::new("saturation flow", 100, 9999).check(link.saturation);
-    let delay = NumberRange::new("delay weight", 0, 999).check(link.weights.delay);
-    let stop = NumberRange::new("stop weight", 0, 999).check(link.weights.stop);
-    let start_lag = NumberRange::new("start lag", 0, step_count - 1).check(link.start_lag);
-    let end_lag = NumberRange::new("end lag", 0, step_count - 1).check(link.end_lag);
-    let begun = both(both(number, entry), both(saturation, delay));
-    both(begun, both(stop, both(start_lag, end_lag)))
-}
-
-/// What the first of two looks found, or else the second.
-fn both(first: Result<(), Found>, second: Result<(), Found>) -> Result<(), Found>
-    ensures { IsOk result ↔ IsOk first × IsOk second }
-{
-    first?;
-    second
+    NumberRange::new("link number", 1, 99_999).check(link.number)?;
+    NumberRange::new("entry flow", 0, 9999).check(link.entry)?;
+    NumberRange::new("saturation flow", 100, 9999).check(link.saturation)?;
+    NumberRange::new("delay weight", 0, 999).check(link.weights.delay)?;
+    NumberRange::new("stop weight", 0, 999).check(link.weights.stop)?;
+    NumberRange::new("start lag", 0, step_count - 1).check(link.start_lag)?;
+    NumberRange::new("end lag", 0, step_count - 1).check(link.end_lag)
 }
 
 /// The same of the sizes of a STEPS card.
