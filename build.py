@@ -190,8 +190,8 @@ class Crates:
     def start_ready(self):
         """Starts the crates whose turn it is.
 
-        Four jobs bring a long crate to half its time and less, for a third more of processors. With three processors and
-        more, the crate with the longest chain above it has one for each, where that chain is longer than a processor's
+        Four jobs take a fifth to a half off a long crate's time, and more of processors. With three processors and more,
+        the crate with the longest chain above it has one for each, where that chain is longer than a processor's
         share of all that is left; it counts as two at most, so that others have their turn. Any other long crate has one
         for each processor that would have nothing to do. Two processors are better off with two crates.
         """
