@@ -1,10 +1,11 @@
 -- Platoons that go by side by side, step by step, twice round the cycle. No public clause cites it.
-use Rattle.std.specs.Prelude.{◌≡◌, ℕ, ◌+◌, ◌*◌, ◌%◌, ◌<◌, List, length, slice_index, ◌-◌, slice_index_or, sum, All}
-use Rattle.std.specs.Prelude.{if◌then◌else◌, ltb}
+use Rattle.std.specs.Prelude.{◌≡◌, ℕ, ◌+◌, ◌*◌, ◌%◌, ◌^◌, ◌<◌, ◌≤◌, List, length, slice_index, ◌-◌, slice_index_or, sum, All}
+use Rattle.std.specs.Prelude.{bit_or, fold, if◌then◌else◌, ltb}
 use Rattle.transyt_profile.specs.Platoon.{smoothed}
 use Rattle.transyt_profile.specs.Arriving.{sent}
 use Rattle.transyt_profile.specs.declared.platoon.Platoon.{Platoon}
 use Rattle.transyt_profile.specs.declared.passing.Passing.{Passing}
+use Rattle.transyt_profile.specs.declared.shares.Shares.{Shares}
 
 -- ys has the first n steps of the second turn of xs in their places: t steps of travel at k percent lead each there
 abbrev pub Placed : List ℕ → List ℕ → ℕ → ℕ → ℕ → Type 0
@@ -54,6 +55,13 @@ product_at p k = slice_index (sent p) k * p.travel.now.starting_factor
 -- a platoon's products are ready in this lane of four
 abbrev pub InLane : ℕ → List ℕ → Platoon → Type 0
 InLane lane lanes p = (k : ℕ) → k < steps_of p → slice_index lanes (4 * k + lane) ≡ product_at p k
+
+-- The shares of a platoon come to this sum and these bits, and its products are ready in this lane of four where they fit.
+pub record AreShared (p : Platoon) (lane : ℕ) (lanes : List ℕ) (shares : Shares) : Type 0 where
+  pub total : shares.total ≡ sum (sent p)
+  pub bits : shares.bits ≡ fold bit_or 0 (sent p)
+  pub most : All (λ v. v ≤ shares.bits) (sent p)
+  pub ready : All (λ v. v < 2 ^ 22) (sent p) → InLane lane lanes p
 
 -- Platoons of as many steps as the cycle, each with its products ready in a lane.
 pub record AreReady (steps : ℕ) (lanes : List ℕ) (ps : List Platoon) : Type 0 where

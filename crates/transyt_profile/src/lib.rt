@@ -37,6 +37,7 @@ mod platoon_laws;
 mod queueing;
 mod readying;
 mod scaling;
+mod shares;
 mod sharing;
 mod spread;
 mod start;

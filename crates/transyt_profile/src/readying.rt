@@ -3,11 +3,12 @@
 ghost use Rattle.std.specs.Prelude.{◌≡◌, ℕ, ◌+◌, ◌*◌, ◌^◌, ◌<◌, ◌≤◌, bit_or, fold, length, slice_index, sum, true, All, Any};
 ghost use Rattle.std.specs.Prelude.{IfNone, IfSome};
 ghost use Rattle.transyt_profile.specs.Arriving.{sent};
-ghost use Rattle.transyt_profile.specs.Passing.{Fits, InLane};
+ghost use Rattle.transyt_profile.specs.Passing.{AreShared, Fits, InLane};
 ghost use Rattle.transyt_profile.specs.Profile.{share_of};
 
 use crate::platoon::Platoon;
-use crate::sharing::{product, share_step};
+use crate::shares::Shares;
+use crate::sharing::{Part, product, share_step};
 
 /// One of four lanes, and the platoon whose products are made ready in it.
 #[derive(Clone, Copy)]
@@ -72,20 +73,58 @@ fn share_below(lane: &Lane<'_>, lanes: &mut [u64]) -> Option<u64>
     ensures others { (k : ℕ) → (m : ℕ) → m < 4 → (m ≡ lane.now.number → ⊥)
         → slice_index lanes.new (4 * k + m) ≡ slice_index lanes.old (4 * k + m) }
 {
+    let shares = share_all(lane, lanes);
+    if shares.bits < lane.platoon.travel.limit {
+        Some(shares.total)
+    } else {
+        None
+    }
+}
+
+/// Shares each value of a platoon by its factor, and writes the products: four steps at a time, so that there are a fourth
+/// of the rounds of the loop, and then one by one.
+fn share_all(lane: &Lane<'_>, lanes: &mut [u64]) -> Shares
+    requires lanes_len { length lanes.old ≡ 4 * length lane.now.platoon.now.leaving.now }
+    requires quick { lane.now.platoon.now.part.now.quick ≡ true }
+    ensures shared { AreShared lane.now.platoon.now lane.now.number lanes.new result }
+    ensures others { (k : ℕ) → (m : ℕ) → m < 4 → (m ≡ lane.now.number → ⊥)
+        → slice_index lanes.new (4 * k + m) ≡ slice_index lanes.old (4 * k + m) }
+{
     let Lane { platoon, number } = *lane;
     let x = platoon.leaving;
     let part = *platoon.part;
     let factor = platoon.travel.starting_factor;
-    let limit = platoon.travel.limit;
+    let fours = x.len() / 4;
     let mut total: u64 = 0;
     let mut bits: u64 = 0;
-    for i in 0..x.len() {
-        let share = product(x[i], &part);
-        lanes[4 * i + number] = times(share, factor);
+    for four in 0..fours {
+        let at = 4 * four;
+        let first = ready(x[at], &part, factor, &mut lanes[4 * at + number]);
+        let second = ready(x[at + 1], &part, factor, &mut lanes[4 * (at + 1) + number]);
+        let third = ready(x[at + 2], &part, factor, &mut lanes[4 * (at + 2) + number]);
+        let fourth = ready(x[at + 3], &part, factor, &mut lanes[4 * (at + 3) + number]);
+        total = total + first + second + third + fourth;
+        bits = bits | first | second | third | fourth;
+    }
+    for at in 4 * fours..x.len() {
+        let share = ready(x[at], &part, factor, &mut lanes[4 * at + number]);
         total += share;
         bits |= share;
     }
-    if bits < limit { Some(total) } else { None }
+    Shares { total, bits }
+}
+
+/// The share of one step, by the factor of its part; its product by the factor of its travel is written.
+fn ready(value: u64, part: &Part, factor: u64, ready: &mut u64) -> u64
+    requires fits { value < 2 ^ 30 }
+    requires quick { part.now.quick ≡ true }
+    ensures share { result ≡ share_of part.now.part part.now.whole value }
+    ensures small { result < 2 ^ 44 }
+    ensures ready { result * factor < 2 ^ 64 → ready.new ≡ result * factor }
+{
+    let share = product(value, part);
+    *ready = times(share, factor);
+    share
 }
 
 /// A product, where it has 64 bits.
