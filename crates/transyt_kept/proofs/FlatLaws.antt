@@ -5,7 +5,7 @@ use Rattle.std.specs.Prelude.{slice_range}
 use Rattle.std.proofs.lemmas.Bool.{cases_eq, cases_lt}
 use Rattle.std.proofs.lemmas.Grind.{get_or-set_at}
 use Rattle.std.proofs.lemmas.List.{length-take-le, length-set, length-replicate, get_or-set_other, get_or-replicate}
-use Rattle.std.proofs.lemmas.List.{drop-replicate, take-replicate, take_at}
+use Rattle.std.proofs.lemmas.List.{drop-replicate, replicate-append-replicate, take-replicate, take_all, take_at}
 use Rattle.std.proofs.lemmas.List.FromFn.{length-map-range_with_len, get_or-map-range_with_len, fill_by_all}
 use Rattle.std.proofs.lemmas.Slice.{between-put_mid, between_is, take-put_mid_below, drop-put_mid}
 use Rattle.std.proofs.Math.Nat.{mul-le-mul_right}
@@ -135,3 +135,13 @@ cut_empty count n =
         ap (λ k. take k (drop (p * n) (replicate (count * n) none))) width
         ∙ ap (take n) (drop-replicate (p * n) (count * n) none)
         ∙ take-replicate n (count * n - p * n) none (omega arith)
+
+-- with a row of 0 more
+pub empty_more : (row n : ℕ) (values : List ℕ) → values ≡ replicate (row * n) 0
+    → take ((row + 1) * n) values ++ replicate ((row + 1) * n - length values) 0 ≡ replicate ((row + 1) * n) 0
+empty_more row n values zeros =
+    let long : length values ≡ row * n = ap length zeros ∙ length-replicate (row * n) 0 in
+    let left : (row + 1) * n - length values ≡ n = omega (arith, long) in
+    let all : take ((row + 1) * n) values ≡ values = take_all ((row + 1) * n) values (omega (arith, long)) in
+    let end : row * n + n ≡ (row + 1) * n = omega arith in
+    rw (left, all, zeros, ← end) (replicate-append-replicate (row * n) n 0)

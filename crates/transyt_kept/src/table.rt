@@ -1,6 +1,6 @@
 //! A table of rows of equal length, each in two versions, one after another in one piece of memory.
 
-ghost use Rattle.std.specs.Prelude.{◌≡◌, ◌<◌, length, slice_set, IfOk};
+ghost use Rattle.std.specs.Prelude.{◌≡◌, ◌*◌, ◌<◌, length, replicate, slice_set, IfOk};
 ghost use Rattle.transyt_profile.specs.Profile.{uniform};
 ghost use Rattle.transyt_kept.specs.Rows.{row, empty_table};
 ghost use Rattle.transyt_kept.specs.Versions.{both};
@@ -56,6 +56,23 @@ pub(crate) fn three_tables(
     Ok((one, two, three))
 }
 
+/// The values of both versions of all rows of a size, all 0. They are filled row by row: the C library fills so few bytes by
+/// wide stores, and as many as a table has byte by byte.
+fn empty_rows(alloc: Global, size: TableSize) -> Result<Vec<u64>, AllocError>
+    ensures { IfOk result (λ values. values.items ≡ replicate (2 * size.row_count * size.step_count) 0) }
+{
+    let mut values = Vec::with_capacity(alloc, size.value_count())?;
+    for row in 0..2 * size.row_count as usize {
+        if values
+            .resize((row + 1) * size.step_count as usize, 0)
+            .is_err()
+        {
+            unreachable!();
+        }
+    }
+    Ok(values)
+}
+
 impl Table {
     /// A table of a size, all 0, now and at the mark. All its memory is taken here.
     pub(crate) fn empty(alloc: Global, size: TableSize) -> Result<Table, AllocError>
@@ -63,7 +80,7 @@ impl Table {
             ≡ both (empty_table size.row_count size.step_count)) }
     {
         let slots = Slots::open(alloc, size.row_count)?;
-        let Ok(values) = vec![in alloc; 0; size.value_count()] else {
+        let Ok(values) = empty_rows(alloc, size) else {
             drop(slots);
             return Err(AllocError);
         };
