@@ -1,5 +1,5 @@
 #!/usr/bin/env python3
-"""costs.py LOG: writes the table of what each crate takes to prove into docs/ARCHITECTURE.md.
+"""costs.py LOG: writes what each crate takes to prove into the last column of the crates in docs/ARCHITECTURE.md.
 
 LOG is what a build says on standard error, from nothing: touch crates.txt; rm -rf crates/*/out; ./transyt run 2> LOG.
 """
@@ -7,31 +7,27 @@ LOG is what a build says on standard error, from nothing: touch crates.txt; rm -
 import os
 import re
 import sys
-from typing import List, Tuple
+from typing import Dict
 
 PAGE = os.path.join(os.path.dirname(os.path.realpath(__file__)), "ARCHITECTURE.md")
-BEGIN, END = "<!-- costs -->", "<!-- end of costs -->"
-COLUMNS = 4
 
 
-def costs_of(log: str) -> List[Tuple[str, int]]:
-    """The crates of a log with their seconds, in the order of the log."""
-    rows = re.findall(r"^transyt: \d+ of \d+ crates: (\w+), (\d+) s", log, re.MULTILINE)
-    return [(crate, int(seconds)) for crate, seconds in rows]
+def costs_of(log: str) -> Dict[str, str]:
+    """The seconds of each crate of a log."""
+    return dict(re.findall(r"^transyt: \d+ of \d+ crates: (\w+), (\d+) s", log, re.MULTILINE))
 
 
-def table_of(costs: List[Tuple[str, int]]) -> str:
-    """The table: columns of crates with their seconds, filled downward."""
-    high = -(-len(costs) // COLUMNS)
-    lines = ["| Crate | s " * COLUMNS + "|", "|---|---" * COLUMNS + "|"]
-    for row in range(high):
-        cells = [costs[place] for place in range(row, len(costs), high)]
-        lines.append("".join(f"| `{crate}` | {seconds} " for crate, seconds in cells) + "|")
-    return "\n".join(lines)
+def with_costs(page: str, costs: Dict[str, str]) -> str:
+    """The page with these seconds at the ends of the crates' rows; a crate that the log leaves out keeps its own."""
+
+    def row(found: "re.Match[str]") -> str:
+        return found[1] + costs.get(found[2], found[3]) + " |"
+
+    return re.sub(r"^(\| `(transyt\w*)` \|.*\| )(\d+) \|$", row, page, flags=re.MULTILINE)
 
 
 def main() -> int:
-    """Puts the table of a log between its two marks."""
+    """Puts the seconds of a log into the page."""
     if len(sys.argv) != 2:
         print("usage: costs.py LOG", file=sys.stderr)
         return 2
@@ -41,10 +37,9 @@ def main() -> int:
         print(f"{sys.argv[1]} names no crate that was proved", file=sys.stderr)
         return 1
     with open(PAGE, encoding="utf-8") as it:
-        before, _, rest = it.read().partition(BEGIN)
-    after = rest.partition(END)[2]
+        page = it.read()
     with open(PAGE, "w", encoding="utf-8") as it:
-        it.write(f"{before}{BEGIN}\n{table_of(costs)}\n{END}{after}")
+        it.write(with_costs(page, costs))
     return 0
 
 
