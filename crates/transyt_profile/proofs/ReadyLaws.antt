@@ -100,44 +100,45 @@ abbrev pub own_share : Platoon → ℕ → ℕ
 own_share p = share_of p.part.now.part p.part.now.whole
 
 -- The first n steps of a lane's platoon are shared: each product that fits stands in its lane, the other lanes stay, and
--- the shares come to this sum and these bits.
-pub record AreSharedFirst (lane : Lane) (old : List ℕ) (n : ℕ) (lanes : List ℕ) (total bits : ℕ) : Type 0 where
-  pub most : (k : ℕ) → k < n → own_share lane.platoon.now (get_or lane.platoon.now.leaving.now k 0) ≤ bits
-  pub all_bits : bits ≡ fold (λ bits v. bit_or bits (own_share lane.platoon.now v)) 0 (take n lane.platoon.now.leaving.now)
+-- the shares come to these.
+pub record AreSharedFirst (lane : Lane) (old : List ℕ) (n : ℕ) (lanes : List ℕ) (shares : Shares) : Type 0 where
+  pub most : (k : ℕ) → k < n → own_share lane.platoon.now (get_or lane.platoon.now.leaving.now k 0) ≤ shares.bits
+  pub bits : shares.bits ≡ fold (λ bits v. bit_or bits (own_share lane.platoon.now v)) 0 (take n lane.platoon.now.leaving.now)
   pub ready : InLane lanes (λ k. own_share lane.platoon.now (get_or lane.platoon.now.leaving.now k 0))
       lane.platoon.now.travel.now.starting_factor lane.number n
   pub others : OthersStay old lanes lane.number
-  pub so_far : total ≡ sum_by (own_share lane.platoon.now) (take n lane.platoon.now.leaving.now)
-  pub few : total ≤ n * 2 ^ 44
+  pub total : shares.total ≡ sum_by (own_share lane.platoon.now) (take n lane.platoon.now.leaving.now)
+  pub few : shares.total ≤ n * 2 ^ 44
   pub room : length lanes ≡ 4 * length lane.platoon.now.leaving.now
 
 -- one step more is shared
-pub one_shared : (lane : Lane) (old : List ℕ) (n : ℕ) (lanes : List ℕ) (total bits share product : ℕ)
+pub one_shared : (lane : Lane) (old : List ℕ) (n : ℕ) (lanes : List ℕ) (shares after : Shares) (share product : ℕ)
     → n < length lane.platoon.now.leaving.now
     → share ≡ own_share lane.platoon.now (get_or lane.platoon.now.leaving.now n 0) → share < 2 ^ 44
     → (share * lane.platoon.now.travel.now.starting_factor < 2 ^ 64
     → product ≡ share * lane.platoon.now.travel.now.starting_factor)
-    → AreSharedFirst lane old n lanes total bits
-    → AreSharedFirst lane old (n + 1) (set lanes (4 * n + lane.number) product) (total + share) (bit_or bits share)
-one_shared lane old n lanes total bits share product below is small fits before =
+    → after.total ≡ shares.total + share → after.bits ≡ bit_or shares.bits share → AreSharedFirst lane old n lanes shares
+    → AreSharedFirst lane old (n + 1) (set lanes (4 * n + lane.number) product) after
+one_shared lane old n lanes shares after share product below is small fits total bits before =
     let p = lane.platoon.now in
     let xs = p.leaving.now in
     record {
-      most = below_more _ _ (λ k low. omega (arith, before.most k low, le_or_l bits share)) (omega (arith, is, le_or_r bits share));
-      all_bits = ap (λ b. bit_or b share) before.all_bits ∙ ap (bit_or _) is
+      most = below_more _ _ (λ k low. omega (arith, bits, before.most k low, le_or_l shares.bits share))
+          (omega (arith, bits, is, le_or_r shares.bits share));
+      bits = bits ∙ ap (λ b. bit_or b share) before.bits ∙ ap (bit_or _) is
           ∙ sym (fold_more (λ bits v. bit_or bits (own_share p v)) 0 xs n 0 below);
       ready = lane_more _ _ _ _ _ _ (omega (arith, below, before.room, lane.within)) before.ready
           (λ low. fits (start_fits p.travel.now share (omega (arith, low, is))) ∙ ap (λ v. v * p.travel.now.starting_factor) is);
       others = others_more _ _ _ _ _ lane.within before.others;
-      so_far = omega (arith, is, before.so_far, sum_by_more (own_share p) xs n 0 below);
-      few = omega (arith, before.few, small);
+      total = omega (arith, total, is, before.total, sum_by_more (own_share p) xs n 0 below);
+      few = omega (arith, total, before.few, small);
       room = length-set lanes (4 * n + lane.number) product ∙ before.room;
     }
 
 -- as many steps are shared
-pub shared_at : (lane : Lane) (old : List ℕ) (n m : ℕ) (lanes : List ℕ) (total bits : ℕ) → n ≡ m
-    → AreSharedFirst lane old n lanes total bits → AreSharedFirst lane old m lanes total bits
-shared_at lane old n m lanes total bits same first = subst (λ (k : ℕ). AreSharedFirst lane old k lanes total bits) same first
+pub shared_at : (lane : Lane) (old : List ℕ) (n m : ℕ) (lanes : List ℕ) (shares : Shares) → n ≡ m
+    → AreSharedFirst lane old n lanes shares → AreSharedFirst lane old m lanes shares
+shared_at lane old n m lanes shares same first = subst (λ (k : ℕ). AreSharedFirst lane old k lanes shares) same first
 
 -- where all that sets out is below 2^22, so is each share
 pub small_share : (p : Platoon) (k : ℕ) → All (λ v. v < 2 ^ 22) (sent p) → k < length p.leaving.now
@@ -148,15 +149,15 @@ small_share p k fit below =
 
 -- all of them are shared
 pub all_first : (lane : Lane) (old : List ℕ) (n : ℕ) (lanes : List ℕ) (shares : Shares)
-    → length lane.platoon.now.leaving.now ≡ n → AreSharedFirst lane old n lanes shares.total shares.bits
+    → length lane.platoon.now.leaving.now ≡ n → AreSharedFirst lane old n lanes shares
     → AreShared lane.platoon.now lane.number lanes shares
 all_first lane old n lanes shares all first =
     let p = lane.platoon.now in
     let xs = p.leaving.now in
     let few : length xs ≤ n = omega (arith, all) in
     record {
-      total = first.so_far ∙ sum_shared _ _ n xs few;
-      bits = first.all_bits ∙ ap (fold _ 0) (take_all n xs few) ∙ sym (fold-map bit_or (own_share p) 0 xs);
+      total = first.total ∙ sum_shared _ _ n xs few;
+      bits = first.bits ∙ ap (fold _ 0) (take_all n xs few) ∙ sym (fold-map bit_or (own_share p) 0 xs);
       most = All-map (λ v. v ≤ shares.bits) (own_share p) xs
           (All-from_get_or (λ v. own_share p v ≤ shares.bits) xs 0 (λ k below. first.most k (omega (arith, below, all))));
       ready = λ fit. lane_all _ _ _ _ _ _ _ few first.ready (λ k below. small_share p k fit below);

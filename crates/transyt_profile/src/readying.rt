@@ -95,23 +95,18 @@ fn share_all(lane: &Lane<'_>, lanes: &mut [u64]) -> Shares
     let part = *platoon.part;
     let factor = platoon.travel.starting_factor;
     let fours = x.len() / 4;
-    let mut total: u64 = 0;
-    let mut bits: u64 = 0;
+    let mut shares = Shares { total: 0, bits: 0 };
     for four in 0..fours {
         let at = 4 * four;
-        let first = ready(x[at], &part, factor, &mut lanes[4 * at + number]);
-        let second = ready(x[at + 1], &part, factor, &mut lanes[4 * (at + 1) + number]);
-        let third = ready(x[at + 2], &part, factor, &mut lanes[4 * (at + 2) + number]);
-        let fourth = ready(x[at + 3], &part, factor, &mut lanes[4 * (at + 3) + number]);
-        total = total + first + second + third + fourth;
-        bits = bits | first | second | third | fourth;
+        shares.add(ready(x[at], &part, factor, &mut lanes[4 * at + number]));
+        shares.add(ready(x[at + 1], &part, factor, &mut lanes[4 * (at + 1) + number]));
+        shares.add(ready(x[at + 2], &part, factor, &mut lanes[4 * (at + 2) + number]));
+        shares.add(ready(x[at + 3], &part, factor, &mut lanes[4 * (at + 3) + number]));
     }
     for at in 4 * fours..x.len() {
-        let share = ready(x[at], &part, factor, &mut lanes[4 * at + number]);
-        total += share;
-        bits |= share;
+        shares.add(ready(x[at], &part, factor, &mut lanes[4 * at + number]));
     }
-    Shares { total, bits }
+    shares
 }
 
 /// The share of one step, by the factor of its part; its product by the factor of its travel is written.

@@ -7,20 +7,24 @@ pub loop-four-preserved : goal.loop-four-preserved
 loop-four-preserved c =
     let lane = c.args.lane.now in
     let i : ℕ = 4 * c.loop-four.four in
-    let one = one_shared lane _ i _ _ _ _ _ (omega arith) c.ready-first.ensures.share c.ready-first.ensures.small
-    c.ready-first.ensures.ready c.loop-four.invariant in
-    let two = one_shared lane _ (i + 1) _ _ _ _ _ (omega arith) c.ready-second.ensures.share c.ready-second.ensures.small
-    c.ready-second.ensures.ready one in
-    let three = one_shared lane _ (i + 2) _ _ _ _ _ (omega arith) c.ready-third.ensures.share c.ready-third.ensures.small
-    c.ready-third.ensures.ready (shared_at lane _ (i + 1 + 1) (i + 2) _ _ _ (omega arith) two) in
-    shared_at lane _ (i + 3 + 1) _ _ _ _ (omega arith)
-    (one_shared lane _ (i + 3) _ _ _ _ _ (omega arith) c.ready-fourth.ensures.share c.ready-fourth.ensures.small
-    c.ready-fourth.ensures.ready (shared_at lane _ (i + 2 + 1) (i + 3) _ _ _ (omega arith) three))
+    let one = one_shared lane _ i _ _ _ _ _ (omega arith) c.ready.ensures.share c.ready.ensures.small c.ready.ensures.ready
+    c.add.ensures.total c.add.ensures.bits c.loop-four.invariant in
+    let two = one_shared lane _ (i + 1) _ _ _ _ _ (omega arith) c.ready-in-loop-four.ensures.share
+    c.ready-in-loop-four.ensures.small c.ready-in-loop-four.ensures.ready
+    c.add-in-loop-four.ensures.total c.add-in-loop-four.ensures.bits one in
+    let three = one_shared lane _ (i + 2) _ _ _ _ _ (omega arith) c.ready-in-loop-four-2.ensures.share
+    c.ready-in-loop-four-2.ensures.small c.ready-in-loop-four-2.ensures.ready
+    c.add-in-loop-four-2.ensures.total c.add-in-loop-four-2.ensures.bits (shared_at lane _ (i + 1 + 1) (i + 2) _ _ (omega arith) two) in
+    shared_at lane _ (i + 3 + 1) _ _ _ (omega arith)
+    (one_shared lane _ (i + 3) _ _ _ _ _ (omega arith) c.ready-in-loop-four-3.ensures.share
+    c.ready-in-loop-four-3.ensures.small c.ready-in-loop-four-3.ensures.ready
+    c.add-in-loop-four-3.ensures.total c.add-in-loop-four-3.ensures.bits (shared_at lane _ (i + 2 + 1) (i + 3) _ _ (omega arith) three))
 
 pub loop-at-preserved : goal.loop-at-preserved
 loop-at-preserved c =
-    one_shared c.args.lane.now _ c.loop-at.at _ _ _ _ _ (omega arith) c.ready-share.ensures.share c.ready-share.ensures.small
-    c.ready-share.ensures.ready c.loop-at.invariant
+    one_shared c.args.lane.now _ c.loop-at.at _ _ _ _ _ (omega arith) c.ready-in-loop-at.ensures.share
+    c.ready-in-loop-at.ensures.small c.ready-in-loop-at.ensures.ready
+    c.add-in-loop-at.ensures.total c.add-in-loop-at.ensures.bits c.loop-at.invariant
 
 pub returns-clause-shared : goal.returns-clause-shared
 returns-clause-shared c = all_first c.args.lane.now _ _ _ _ (omega arith) c.loop-at.invariant

@@ -4,7 +4,7 @@ use Rattle.transyt_profile.proofs.ReadyLaws.{AreSharedFirst}
 use Rattle.transyt_profile.proofs.readying.share_all.Given as goal
 
 abbrev pub invariant-loop-four : goal.invariant-loop-four
-invariant-loop-four l = AreSharedFirst l.lane l.initial.lanes (4 * l.four) l.lanes l.total l.bits
+invariant-loop-four l = AreSharedFirst l.lane l.initial.lanes (4 * l.four) l.lanes l.shares
 
 abbrev pub invariant-loop-at : goal.invariant-loop-at
-invariant-loop-at l = AreSharedFirst l.lane l.fn.lanes l.at l.lanes l.total l.bits
+invariant-loop-at l = AreSharedFirst l.lane l.fn.lanes l.at l.lanes l.shares
