@@ -1,5 +1,5 @@
 -- The number of moves, which no edit changes.
-use Rattle.std.proofs.Common.{◌≡◌, ℕ, ◌+◌, ◌*◌, List, [], ◌∷◌, length, map, ap, refl, sym, ◌∙◌, length-append}
+use Rattle.std.proofs.Common.{◌≡◌, ℕ, ◌+◌, ◌*◌, List, [], ◌∷◌, length, map, ap, refl, sym, ◌∙◌, length-append, arith}
 use Rattle.std.specs.List.{flat_map}
 use Rattle.std.proofs.lemmas.List.{length-map}
 use Rattle.transyt_parts.specs.Parts.{NodeValue}
@@ -22,22 +22,14 @@ node_bare steps size n =
 nodes_bare : (steps size : ℕ) (nodes : List NodeValue)
     → length (size_moves steps (map bare_node nodes) size) ≡ length (size_moves steps nodes size)
 nodes_bare steps size [] = refl
-nodes_bare steps size (n ∷ ns) =
-    length-append (node_moves steps size (bare_node n)) (size_moves steps (map bare_node ns) size)
-    ∙ ap (λ k. k + length (size_moves steps (map bare_node ns) size)) (node_bare steps size n)
-    ∙ ap (λ k. length (node_moves steps size n) + k) (nodes_bare steps size ns)
-    ∙ sym (length-append (node_moves steps size n) (size_moves steps ns size))
+nodes_bare steps size (n ∷ ns) = simp length-append (omega (arith, node_bare steps size n, nodes_bare steps size ns))
 
 -- and by all sizes
 sizes_bare : (steps : ℕ) (nodes : List NodeValue) (sizes : List ℕ)
     → length (flat_map (size_moves steps (map bare_node nodes)) sizes)
     ≡ length (flat_map (size_moves steps nodes) sizes)
 sizes_bare steps nodes [] = refl
-sizes_bare steps nodes (s ∷ ss) =
-    length-append (size_moves steps (map bare_node nodes) s) (flat_map (size_moves steps (map bare_node nodes)) ss)
-    ∙ ap (λ k. k + length (flat_map (size_moves steps (map bare_node nodes)) ss)) (nodes_bare steps s nodes)
-    ∙ ap (λ k. length (size_moves steps nodes s) + k) (sizes_bare steps nodes ss)
-    ∙ sym (length-append (size_moves steps nodes s) (flat_map (size_moves steps nodes) ss))
+sizes_bare steps nodes (s ∷ ss) = simp length-append (omega (arith, nodes_bare steps s nodes, sizes_bare steps nodes ss))
 
 -- the number of moves is a matter of shape
 pub count_shape : (net : Network) → move_count (shape net) ≡ move_count net

@@ -1,9 +1,10 @@
 -- A search of the places that are still to be looked at, and the climb after it.
-use Rattle.std.proofs.Common.{◌≡◌, ℕ, zero, suc, ◌+◌, ◌-◌, ◌%◌, Bool, true, false, [], ◌∷◌, ◌++◌, refl, ap, sym, ◌∙◌, arith}
+use Rattle.std.proofs.Common.{◌≡◌, ℕ, zero, suc, ◌+◌, ◌-◌, ◌%◌, Bool, true, false, ◌∷◌, ◌++◌, refl, ap, sym, ◌∙◌, arith}
 use Rattle.std.proofs.Common.{Option, Some, None, nat_lt, nat_le, if◌then◌else◌}
 use mathlib.Core.Path.{fun_ext}
 use Rattle.std.specs.Option.{option_map}
 use Rattle.std.proofs.Math.Nat.{mod-add-mod, mod-mod}
+use Rattle.std.proofs.lemmas.Bool.{cond-true, cond-false}
 use Rattle.std.proofs.lemmas.Bool.Decides.{nat_tests}
 use Rattle.transyt_net.specs.Parts.{Network}
 use Rattle.transyt_moves.specs.Moves.{move_count}
@@ -30,21 +31,12 @@ looks_mod net k (suc n) =
 
 -- where no place is left, no move lowers
 pub onward_local : (net : Network) (k left : ℕ) → onward net k 0 left ≡ ended true net k 0
-onward_local net k left =
-    let all : nat_le 0 left ≡ true = grind (arith, nat_tests) in
-    ap (λ b. if b then ended true net k 0 else ended false net k left) all
+onward_local net k left = cond-true (nat_le 0 left) _ _ (grind (arith, nat_tests))
 
 no_look : (net : Network) (k n : ℕ) (found : Option ℕ)
     → after_search climb net k (suc n) 0 found ≡ ended false net k 0
-no_look net k n None =
-    let less : nat_le (suc n) 0 ≡ false = grind (arith, nat_tests) in
-    ap (λ b. if b then ended true net k (suc n) else ended false net k 0) less
-no_look net k n (Some r) =
-    let less : nat_lt r 0 ≡ false = grind (arith, nat_tests) in
-    ap (λ b. if b
-    then stepped net k (r + 1) ((k + r) % move_count net)
-    (climb (moved net ((k + r) % move_count net)) ((k + r) % move_count net) (0 - (r + 1)))
-    else ended false net k 0) less
+no_look net k n None = cond-false (nat_le (suc n) 0) _ _ (grind (arith, nat_tests))
+no_look net k n (Some r) = cond-false (nat_lt r 0) _ _ (grind (arith, nat_tests))
 
 -- where no look is left, the budget is used up
 pub onward_budget : (net : Network) (k n : ℕ) → onward net k (suc n) 0 ≡ ended false net k 0
@@ -61,12 +53,8 @@ ended_more : (local : Bool) (net : Network) (k n : ℕ)
     → ended local net k (suc n)
     ≡ looked (record { net = net; place = k % move_count net }) (ended local net ((k + 1) % move_count net) n)
 ended_more local net k n =
-    ap (λ ls. record {
-      steps = [];
-      local = local;
-      looks = record { net = net; place = k % move_count net } ∷ ls;
-      net = net;
-    }) (looks_mod net (k + 1) n)
+    ap (λ ls. record (ended local net k (suc n)) { looks = record { net = net; place = k % move_count net } ∷ ls })
+    (looks_mod net (k + 1) n)
 
 -- and where one is
 stepped_more : (net : Network) (k n place : ℕ) (c : Climb)
@@ -123,8 +111,6 @@ onward_takes net k n left lower =
     let less : suc left - 1 ≡ left = omega arith in
     let here : lowers net ((k + 0) % move_count net) ≡ true =
     ap (λ x. lowers net (x % move_count net)) none_more ∙ lower in
-    let some : nat_lt 0 (suc left) ≡ true = grind (arith, nat_tests) in
-    ap (λ b. after_search climb net k (suc n) (suc left)
-    (if b then Some 0 else option_map (λ r. r + 1) (least (λ r. lowers net ((k + (r + 1)) % move_count net)) n))) here
-    ∙ (λ i. let place = none_more i % move_count net in
-    if some i then stepped net k 1 place (climb (moved net place) place (less i)) else ended false net k (suc left))
+    ap (after_search climb net k (suc n) (suc left)) (cond-true (lowers net ((k + 0) % move_count net)) _ _ here)
+    ∙ cond-true (nat_lt 0 (suc left)) _ _ (grind (arith, nat_tests))
+    ∙ (λ i. let place = none_more i % move_count net in stepped net k 1 place (climb (moved net place) place (less i)))

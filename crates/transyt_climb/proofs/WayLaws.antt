@@ -1,5 +1,5 @@
 -- A climb on its way: a turn takes its answer's step and leaves the rest of the climb, and so do the turns of a round.
-use Rattle.std.proofs.Common.{◌≡◌, ℕ, zero, suc, ◌+◌, ◌-◌, ◌<◌, Bool, true, false, None, List, [], ◌++◌}
+use Rattle.std.proofs.Common.{◌≡◌, ℕ, zero, suc, ◌+◌, ◌-◌, Bool, true, false, None, List, [], ◌++◌}
 use Rattle.std.proofs.Common.{refl, ap, sym, ◌∙◌, subst, arith}
 use Rattle.std.proofs.lemmas.List.{append-nil, append_assoc}
 use Rattle.transyt_sweep.specs.Climb.{Climb, Step, climb}
@@ -39,10 +39,10 @@ module _ (whole : Climb) (work : ℕ) where
       → HasCome whole work (done ++ []) m left
   come_same done m left so = subst (λ d. HasCome whole work d m left) (sym (append-nil done)) so
 
-  come_on : (done : List Step) (m : Machine) (a : Turn) → HasCome whole work done m (goes a m) → climb_left m ≡ goes a m
-      → IsReady (after_answer a m)
+  come_on : (done : List Step) (m : Machine) (a : Turn) → HasCome whole work done m (climb_left m)
+      → HasCome whole work done m (goes a m) → IsReady (after_answer a m)
       → HasCome whole work (done ++ step_then a []) (after_answer a m) (climb_left (after_answer a m))
-  come_on done m (Took place edit index) so left ready = record {
+  come_on done m (Took place edit index) came so ready = record {
     ready = ready;
     steps = so.steps
         ∙ sym (append_assoc done (step_then (Took place edit index) []) (climb_left (after_look true m)).steps);
@@ -51,7 +51,7 @@ module _ (whole : Climb) (work : ℕ) where
     looks = omega (arith, so.looks);
     work_is = omega (arith, so.work_is);
   }
-  come_on done m Passed so left ready = come_same done (after_look false m) (climb_left (after_look false m)) (record {
+  come_on done m Passed came so ready = come_same done (after_look false m) (climb_left (after_look false m)) (record {
     ready = ready;
     steps = so.steps;
     local = so.local;
@@ -59,16 +59,14 @@ module _ (whole : Climb) (work : ℕ) where
     looks = omega (arith, so.looks);
     work_is = omega (arith, so.work_is);
   })
-  come_on done m Local so left ready = come_same done m (climb_left m) (subst (HasCome whole work done m) (sym left) so)
-  come_on done m Budget so left ready =
-      come_same done m (climb_left m) (subst (HasCome whole work done m) (sym left) so)
+  come_on done m Local came so ready = come_same done m (climb_left m) came
+  come_on done m Budget came so ready = come_same done m (climb_left m) came
 
   -- a turn
   come_turn : (done : List Step) (m : Machine) → HasCome whole work done m (climb_left m)
       → HasCome whole work (done ++ step_then (answer_of m) []) (turned m) (climb_left (turned m))
   come_turn done m so =
-      let left = turn_goes m so.ready in
-      come_on done m (answer_of m) (subst (HasCome whole work done m) left so) left (ready_turned m so.ready)
+      come_on done m (answer_of m) so (subst (HasCome whole work done m) (turn_goes m so.ready) so) (ready_turned m so.ready)
 
   -- n turns
   come_turns : (n : ℕ) (done : List Step) (m : Machine) → HasCome whole work done m (climb_left m)
@@ -152,7 +150,7 @@ round_rest n m after last round =
 -- its steps are that of its last turn
 round_steps : (n : ℕ) (m after : Machine) (last : Turn) → IsRound m after n last
     → steps_in (answers n m) ≡ step_then last []
-round_steps zero m after last round = let some : 0 < 0 = round.some in absurd (omega arith)
+round_steps zero m after last round = absurd (omega (arith, round.some))
 round_steps (suc zero) m after last round = ap (λ a. step_then a []) (sym round.last_is)
 round_steps (suc (suc n)) m after last round =
     ap (λ a. step_then a (steps_in (answers (suc n) (turned m)))) (round.passed 0 (omega arith))
@@ -217,7 +215,7 @@ looked_one m Budget going = absurd (cc)
 -- a round that is no end looks once at each turn
 pub round_looks : (m after : Machine) (count : ℕ) (last : Turn) → IsRound m after count last → is_end last ≡ false
     → HasLooked m after count
-round_looks m after zero last round going = let some : 0 < 0 = round.some in absurd (omega arith)
+round_looks m after zero last round going = absurd (omega (arith, round.some))
 round_looks m after (suc zero) last round going =
     subst (λ t. HasLooked m t 1) (sym round.after_is)
     (looked_one m (answer_of m) (ap is_end (sym round.last_is) ∙ going))

@@ -60,6 +60,7 @@ pub fn worked_turns()
 {}
 
 /// No move of a network without links lowers its index; of another only the last does, so that it isn't at its end.
+#[tactic(auto, using(crate::proofs::WorkedLaws::local, crate::proofs::WorkedLaws::not_local))]
 pub fn worked_local()
     ensures local { IsLocal idle }
     ensures not_local { IsLocal by_last → ⊥ }

@@ -1,17 +1,8 @@
 -- A look is that of the session at the move.
-use Rattle.std.proofs.Common.{◌≡◌, ap, ◌∙◌}
-use Rattle.transyt_moves.specs.Moves.{move}
-use Rattle.transyt_session.specs.Session.{lowered, lower_index}
 use Rattle.transyt_climb.proofs.climber.look.Goals as goal
 
 pub returns-clause-state : goal.returns-clause-state
-returns-clause-state g c =
-    let edit : c.move_at-edit.result ≡ move c.args.session.now.net c.args.place =
-    c.move_at-edit.ensures ∙ ap (λ n. move n c.args.place) c.net.ensures in
-    c.lower.ensures.state ∙ ap (λ e. lowered e c.args.session.now) edit
+returns-clause-state g c = cc
 
 pub returns-clause-found : goal.returns-clause-found
-returns-clause-found g c =
-    let edit : c.move_at-edit.result ≡ move c.args.session.now.net c.args.place =
-    c.move_at-edit.ensures ∙ ap (λ n. move n c.args.place) c.net.ensures in
-    c.lower.ensures.found ∙ ap (lower_index c.args.session.now.net) edit
+returns-clause-found g c = cc
