@@ -1,5 +1,6 @@
 -- The number of turns of a round: the least turn that takes a step is found where all before it take none.
-use Rattle.std.proofs.Common.{◌≡◌, ℕ, zero, suc, ◌+◌, ◌<◌, Bool, true, false, Some, None, refl, ap, ◌∙◌, arith, if◌then◌else◌}
+use Rattle.std.proofs.Common.{◌≡◌, ℕ, zero, suc, ◌+◌, ◌<◌, Bool, true, false, Some, None, refl, ap, ◌∙◌, arith}
+use Rattle.std.proofs.lemmas.Bool.{cond_both, cond-true, cond-false}
 use Rattle.std.specs.Option.{option_map}
 use Rattle.transyt_sweep.specs.Climb.{least}
 use Rattle.transyt_climb.specs.Turns.{Machine, answer_of, turns}
@@ -9,25 +10,19 @@ use Rattle.transyt_desks.specs.Rounds.{is_took, up_to, turns_up_to}
 least_found : (test : ℕ → Bool) (n i : ℕ) → i < n → ((k : ℕ) → k < i → test k ≡ false) → test i ≡ true
     → least test n ≡ Some i
 least_found test zero i less before here = absurd (omega arith)
-least_found test (suc n) zero less before here =
-    ap (λ b. if b then Some 0 else option_map (λ r. r + 1) (least (λ r. test (r + 1)) n)) here
+least_found test (suc n) zero less before here = cond-true (test 0) _ _ here
 least_found test (suc n) (suc i) less before here =
-    let next : suc i ≡ i + 1 = omega arith in
-    let rest : least (λ r. test (r + 1)) n ≡ Some i =
-    least_found (λ r. test (r + 1)) n i (omega arith) (λ k fewer. before (k + 1) (omega arith))
-    (ap test (omega arith) ∙ here) in
-    ap (λ b. if b then Some 0 else option_map (λ r. r + 1) (least (λ r. test (r + 1)) n)) (before 0 (omega arith))
-    ∙ ap (λ found. option_map (λ r. r + 1) found) rest
+    cond-false (test 0) _ _ (before 0 (omega arith))
+    ∙ ap (λ found. option_map (λ r. r + 1) found) (least_found (λ r. test (r + 1)) n i (omega arith)
+    (λ k fewer. before (k + 1) (omega arith)) (ap test (omega arith) ∙ here))
     ∙ ap Some (omega arith)
 
 -- no number passes a test, where all fail
 least_fails : (test : ℕ → Bool) (n : ℕ) → ((k : ℕ) → k < n → test k ≡ false) → least test n ≡ None
 least_fails test zero all = refl
 least_fails test (suc n) all =
-    let rest : least (λ r. test (r + 1)) n ≡ None =
-    least_fails (λ r. test (r + 1)) n (λ k fewer. all (k + 1) (omega arith)) in
-    ap (λ b. if b then Some 0 else option_map (λ r. r + 1) (least (λ r. test (r + 1)) n)) (all 0 (omega arith))
-    ∙ ap (λ found. option_map (λ r. r + 1) found) rest
+    cond-false (test 0) _ _ (all 0 (omega arith))
+    ∙ ap (λ found. option_map (λ r. r + 1) found) (least_fails (λ r. test (r + 1)) n (λ k fewer. all (k + 1) (omega arith)))
 
 -- the turns up to and with the first that takes a step
 pub up_to_took : (n i : ℕ) (m : Machine) → i < n → ((k : ℕ) → k < i → is_took (answer_of (turns k m)) ≡ false)
@@ -44,9 +39,5 @@ up_to_all n m all = ap (λ found. up_to found n) (least_fails (λ r. is_took (an
 
 -- of one turn there is one
 pub up_to_one : (m : Machine) → turns_up_to 1 m ≡ 1
-up_to_one m = by (is_took (answer_of m)) refl
-  where
-    by : (b : Bool) → is_took (answer_of m) ≡ b → turns_up_to 1 m ≡ 1
-    by true here = up_to_took 1 0 m (omega arith) (λ k less. absurd (omega arith)) here
-    by false here = up_to_all 1 m (λ k less. let first : k ≡ 0 = omega arith in
-        ap (λ j. is_took (answer_of (turns j m))) first ∙ here)
+unfolding turns_up_to
+up_to_one m = cond_both (is_took (answer_of m)) (Some 0) None (λ found. up_to found 1 ≡ 1) (λ _. refl) (λ _. refl)

@@ -12,19 +12,18 @@ use Rattle.transyt_desks.specs.Stretches.{IsStretch, made_at, passing, place_at,
 
 module _ (net : Network) (place count n : ℕ) (s : Stretch) (is : IsStretch net place count n s) (going : s.made ≡ None) where
   -- one move more passes
-  pub stretch_passes : lowers net (place_at place count n) ≡ false
-      → edit_work net (move net (place_at place count n)) ≤ 8000
-      → IsStretch net place count (n + 1) (passing s (edit_work net (move net (place_at place count n))))
-  stretch_passes higher few =
+  pub stretch_passes : (work : ℕ) → work ≡ edit_work net (move net (place_at place count n))
+      → lowers net (place_at place count n) ≡ false → edit_work net (move net (place_at place count n)) ≤ 8000
+      → IsStretch net place count (n + 1) (record (passing s work) { made = s.made })
+  stretch_passes work worked higher few =
       let all : s.passed ≡ n = is.whole going in
       let more : s.passed + 1 ≡ suc n = omega (arith, all) in
-      let work = edit_work net (move net (place_at place count n)) in
       record {
         inside = omega (arith, all);
         passes = λ k less. below_more (λ k. lowers net (place_at place count k) ≡ false) n
             (λ k fewer. is.passes k (omega (arith, all, fewer))) higher k (omega (arith, all, less));
-        work = ap (λ x. x + work) (is.work ∙ ap (work_before net place count) all) ∙ sym (ap (work_before net place count) more);
-        few = omega (arith, is.few, few);
+        work = (λ i. (is.work ∙ ap (work_before net place count) all) i + worked i) ∙ sym (ap (work_before net place count) more);
+        few = omega (arith, is.few, few, worked);
         next = λ made yes. absurd (cc);
         found = λ made yes. absurd (cc);
         small = λ made yes. absurd (cc);

@@ -2,19 +2,19 @@
 use Rattle.std.proofs.Common.{◌≡◌, ◌+◌, ◌<◌, ◌≤◌, ℕ, Bool, true, false, Option, Some, None, IfSome, ◌≢◌, is_some, nat_lt, refl, ap, sym, ◌∙◌, arith}
 use Rattle.std.proofs.Common.{if◌then◌else◌, ◌==◌}
 use Rattle.std.proofs.lemmas.Bool.Decides.{nat_tests}
-use Rattle.std.proofs.lemmas.Option.{same_Some}
+use Rattle.std.proofs.lemmas.Option.{cond_some}
 use Rattle.transyt_net.specs.declared.edit.Edit.{Edit}
 use Rattle.transyt_net.specs.declared.edit.EditFault.{EditFault}
 use Rattle.transyt_net.specs.Parts.{Network, SameShape, shape as shape_word}
 use Rattle.transyt_net.specs.EditFaults.{edit_fault}
 use Rattle.transyt_moves.specs.Moves.{move, move_count}
 use Rattle.transyt_sweep.specs.Sweeps.{index}
-use Rattle.transyt_sweep.specs.Climb.{lowers, moved, is_below, index_with, tried_at}
+use Rattle.transyt_sweep.specs.Climb.{lowers, moved, is_below, index_with}
 use Rattle.transyt_track.specs.Due.{due, edit_work, work_with}
 use Rattle.transyt_net.specs.Edits.{with_edit}
 use Rattle.transyt_session.specs.Session.{SessionValue, credited, edit_lowers, standing_for, tried_below, try_of, tried_with}
-use Rattle.transyt_climb.specs.declared.turn.Turn.TheVariants.{Took, Passed, Local, Budget}
-use Rattle.transyt_climb.specs.Turns.{Machine, machine, looked_at, look_answer, answer_of, after_answer, turned, noted}
+use Rattle.transyt_climb.specs.declared.turn.Turn.TheVariants.{Local, Budget}
+use Rattle.transyt_climb.specs.Turns.{Machine, looked_at, look_answer, answer_of}
 use Rattle.transyt_climb.proofs.CountLaws.{count_moved, shape_moved}
 use Rattle.transyt_climb.proofs.LookLaws.{lowers_is}
 use Rattle.transyt_desks.specs.declared.results.MadeMove.{MadeMove}
@@ -30,6 +30,11 @@ pub some_told : (o : Option MadeMove) → is_some o ≡ true → o ≢ None
 some_told None is = absurd (cc)
 some_told (Some made) is = λ same. absurd (cc)
 
+-- nor is what never is
+pub none_by : (o : Option MadeMove) → ((made : MadeMove) → o ≡ Some made → ⊥) → o ≡ None
+none_by None never = refl
+none_by (Some made) never = absurd (never made refl)
+
 -- the work that a try results is that of its edit, by its fault
 work_by : (net : Network) (e : Edit) (fault : Option EditFault) → work_found (tried_with net e fault) ≡ work_with net e fault
 work_by net e None = refl
@@ -41,39 +46,29 @@ try_work net e = work_by net e (edit_fault net e)
 
 -- an edit that brings the index below a bound is made, and no other, by its fault
 made_fault : (net : Network) (bound : ℕ) (e : Edit) (fault : Option EditFault)
-    → (if is_below bound (index_with net e fault) then with_edit net e else net)
-    ≡ net_made (made_by bound e (tried_with net e fault)) net
+    → ((if is_below bound (index_with net e fault) then with_edit net e else net)
+    ≡ net_made (made_by bound e (tried_with net e fault)) net)
+    × (is_some (made_by bound e (tried_with net e fault)) ≡ is_below bound (index_with net e fault))
 made_fault net bound e None = by (nat_lt (index (with_edit net e)) bound)
   where
     made : MadeMove
     made = record { edit = e; index = index (with_edit net e); work = due net (with_edit net e) }
 
-    by : (b : Bool) → (if b then with_edit net e else net) ≡ net_made (if b then Some made else None) net
-    by true = refl
-    by false = refl
-made_fault net bound e (Some fault) = refl
+    by : (b : Bool) → ((if b then with_edit net e else net) ≡ net_made (if b then Some made else None) net)
+        × (is_some (if b then Some made else None) ≡ b)
+    by true = (refl, refl)
+    by false = (refl, refl)
+made_fault net bound e (Some fault) = (refl, refl)
 
 -- a session after a try with a bound stands for the network with the edit made, if it was
 pub after_try : (bound : ℕ) (e : Edit) (s : SessionValue)
     → tried_below bound e s ≡ standing_for (net_made (made_by bound e (try_of s.net e)) s.net) s
-after_try bound e s = ap (λ net. standing_for net s) (made_fault s.net bound e (edit_fault s.net e))
+after_try bound e s = ap (λ net. standing_for net s) (made_fault s.net bound e (edit_fault s.net e)).0
 
--- a move is made below the index of the network exactly where it lowers the index, by its fault
-lowers_fault : (net : Network) (bound : ℕ) (e : Edit) (fault : Option EditFault)
-    → is_some (made_by bound e (tried_with net e fault)) ≡ is_below bound (index_with net e fault)
-lowers_fault net bound e None = by (nat_lt (index (with_edit net e)) bound)
-  where
-    made : MadeMove
-    made = record { edit = e; index = index (with_edit net e); work = due net (with_edit net e) }
-
-    by : (b : Bool) → is_some (if b then Some made else None) ≡ b
-    by true = refl
-    by false = refl
-lowers_fault net bound e (Some fault) = refl
-
+-- a move is made below the index of the network exactly where it lowers the index
 pub made_lowers : (net : Network) (place : ℕ) → is_some (made_at net (index net) place) ≡ lowers net place
 made_lowers net place =
-    lowers_fault net (index net) (move net place) (edit_fault net (move net place)) ∙ sym (lowers_is net place)
+    (made_fault net (index net) (move net place) (edit_fault net (move net place))).1 ∙ sym (lowers_is net place)
 
 -- so what isn't made doesn't lower it, and what is made does
 pub none_lowers : (net : Network) (place : ℕ) → made_at net (index net) place ≡ None → lowers net place ≡ false
@@ -94,20 +89,14 @@ pub record IsMade (net : Network) (e : Edit) (made : MadeMove) : Type 0 where
 
 made_fields : (net : Network) (bound : ℕ) (e : Edit) (fault : Option EditFault) (made : MadeMove)
     → edit_fault net e ≡ fault → made_by bound e (tried_with net e fault) ≡ Some made → IsMade net e made
-made_fields net bound e None made allowed is = by (nat_lt (index (with_edit net e)) bound) is
-  where
-    with_it : MadeMove
-    with_it = record { edit = e; index = index (with_edit net e); work = due net (with_edit net e) }
-
-    by : (b : Bool) → (if b then Some with_it else None) ≡ Some made → IsMade net e made
-    by true is =
-        let same : made ≡ with_it = sym (same_Some with_it made is) in
-        record {
-          edit = ap (λ (m : MadeMove). m.edit) same;
-          index_is = ap (λ (m : MadeMove). m.index) same;
-          work = ap (λ (m : MadeMove). m.work) same ∙ ap (work_with net e) (sym allowed);
-        }
-    by false is = absurd (cc)
+made_fields net bound e None made allowed is =
+    let same : made ≡ record { edit = e; index = index (with_edit net e); work = due net (with_edit net e) } =
+    sym (cond_some (nat_lt (index (with_edit net e)) bound) _ made is).1 in
+    record {
+      edit = ap (λ (m : MadeMove). m.edit) same;
+      index_is = ap (λ (m : MadeMove). m.index) same;
+      work = ap (λ (m : MadeMove). m.work) same ∙ ap (work_with net e) (sym allowed);
+    }
 made_fields net bound e (Some fault) made allowed is = absurd (cc)
 
 pub made_is : (net : Network) (bound place : ℕ) (made : MadeMove) → made_at net bound place ≡ Some made
@@ -115,12 +104,13 @@ pub made_is : (net : Network) (bound place : ℕ) (made : MadeMove) → made_at 
 made_is net bound place made is =
     made_fields net bound (move net place) (edit_fault net (move net place)) made refl is
 
--- the network with it has the same shape
-pub made_shape : (net : Network) (bound place : ℕ) (made : MadeMove) → made_at net bound place ≡ Some made
-    → SameShape (with_edit net made.edit) net
+-- the network with what is made, if it is, has the same shape
+pub made_shape : (net : Network) (bound place : ℕ) (o : Option MadeMove)
+    → ((made : MadeMove) → o ≡ Some made → made_at net bound place ≡ Some made) → SameShape (net_made o net) net
 unfolding moved
-made_shape net bound place made is =
-    ap (λ e. shape_word (with_edit net e)) (made_is net bound place made is).edit ∙ shape_moved net place
+made_shape net bound place None found = refl
+made_shape net bound place (Some made) found =
+    ap (λ e. shape_word (with_edit net e)) (made_is net bound place made (found made refl)).edit ∙ shape_moved net place
 
 -- and as many moves
 pub count_made : (net : Network) (place : ℕ) (made : MadeMove) → IsMade net (move net place) made
@@ -129,10 +119,10 @@ unfolding moved
 count_made net place made is = ap (λ e. move_count (with_edit net e)) is.edit ∙ count_moved net place
 
 -- a session that has made it, credited with other work and its own, is one that has looked at the place
-pub lowered_made : (net : Network) (place : ℕ) (made : MadeMove) (work : ℕ) (s : SessionValue) → IsMade s.net (move s.net place) made
+pub lowered_made : (place : ℕ) (made : MadeMove) (work : ℕ) (s : SessionValue) → IsMade s.net (move s.net place) made
     → lowers s.net place ≡ true
     → credited made.work (credited work (standing_for (with_edit s.net made.edit) s)) ≡ looked_at place (credited work s)
-lowered_made net place made work s is lower =
+lowered_made place made work s is lower =
     let e = move s.net place in
     let makes : true ≡ edit_lowers s.net e = sym lower ∙ lowers_is s.net place in
     λ i. record {
@@ -157,37 +147,3 @@ answers_look m since looked =
     let some : (m.counters.since == m.counters.count) ≡ false = grind (arith, nat_tests) in
     let left : (m.counters.looked == m.counters.budget) ≡ false = grind (arith, nat_tests) in
     λ i. if some i then Local else if left i then Budget else look_answer m.session.net m.counters.place
-
--- a look that lowers nothing passes
-pub answers_passed : (m : Machine) → m.counters.since < m.counters.count → m.counters.looked < m.counters.budget
-    → lowers m.session.net m.counters.place ≡ false → answer_of m ≡ Passed
-answers_passed m since looked higher =
-    answers_look m since looked
-    ∙ ap (λ b. if b then Took m.counters.place (move m.session.net m.counters.place)
-    (index (moved m.session.net m.counters.place)) else Passed) higher
-
--- a look that lowers takes the move
-pub answers_took : (m : Machine) → m.counters.since < m.counters.count → m.counters.looked < m.counters.budget
-    → lowers m.session.net m.counters.place ≡ true
-    → answer_of m ≡ Took m.counters.place (move m.session.net m.counters.place)
-    (index (moved m.session.net m.counters.place))
-answers_took m since looked lower =
-    answers_look m since looked
-    ∙ ap (λ b. if b then Took m.counters.place (move m.session.net m.counters.place)
-    (index (moved m.session.net m.counters.place)) else Passed) lower
-
--- the state after a look that lowers nothing
-pub turned_passed : (m : Machine) → answer_of m ≡ Passed → lowers m.session.net m.counters.place ≡ false
-    → turned m ≡ machine (noted false m.counters) (record {
-      net = m.session.net;
-      before = None;
-      work = m.session.work + edit_work m.session.net (move m.session.net m.counters.place);
-    })
-unfolding lowers tried_at moved
-turned_passed m is higher =
-    ap (λ a. after_answer a m) is
-    ∙ ap (λ b. machine (noted false m.counters) (record {
-      net = if b then moved m.session.net m.counters.place else m.session.net;
-      before = None;
-      work = m.session.work + edit_work m.session.net (move m.session.net m.counters.place);
-    })) higher

@@ -31,6 +31,7 @@ pub fn worked_rounds()
 
 /// Worked desks stand for networks of one shape, and not for one network; others not even for one shape. Worked tries are
 /// those of the moves from the third on, and not from the second on.
+#[tactic(auto, using(crate::proofs::WorkedResultLaws::tries, crate::proofs::WorkedResultLaws::not_earlier))]
 pub fn worked_desks()
     ensures not_aligned { AreAligned trial_second → ⊥ }
     ensures alike_in_trial { AreAlike trial_first }

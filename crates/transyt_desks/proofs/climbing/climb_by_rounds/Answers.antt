@@ -19,29 +19,25 @@ loop-round-preserved g c =
     let told = c.stretch_round-round.ensures in
     let after : Machine = machine c.stretch_round-round.new.climber (desk_zero c.stretch_round-round.new.self) in
     record {
-      counted = counted_on so.counted after c.stretch_round-round.result.turns c.stretch_round-round.result.last told.made.round
-          (sym c.is_end.ensures ∙ c.if-is_end.false) told.made.few c.step_count-took.result c.step_count-took.ensures.value
-          c.step_count-took.ensures.few;
+      counted = counted_on so.counted after _ _ told.made.round (sym c.is_end.ensures ∙ c.if-is_end.false) told.made.few
+          c.step_count-took.result c.step_count-took.ensures.value c.step_count-took.ensures.few;
       alike = told.alike;
       workers = told.workers ∙ so.workers;
-      steps = λ one.
-          (let now = told.steps (so.workers ∙ one) in
-          let before = so.steps one in omega (arith, now, before));
+      steps = λ one. omega (arith, told.steps (so.workers ∙ one), so.steps one);
     }
 
 pub loop-round-smaller : goal.loop-round-smaller
 loop-round-smaller g c =
     let after : Machine = machine c.stretch_round-round.new.climber (desk_zero c.stretch_round-round.new.self) in
-    fewer_left c.loop-round.invariant.counted.climbing after c.stretch_round-round.result.turns c.stretch_round-round.result.last
-    c.stretch_round-round.ensures.made.round (sym c.is_end.ensures ∙ c.if-is_end.false)
+    fewer_left c.loop-round.invariant.counted.climbing after _ _ c.stretch_round-round.ensures.made.round
+    (sym c.is_end.ensures ∙ c.if-is_end.false)
 
 pub returns-then-is_end : goal.returns-then-is_end
 returns-then-is_end g c =
     let so = c.loop-round.invariant in
     let told = c.stretch_round-round.ensures in
     let after : Machine = machine c.stretch_round-round.new.climber (desk_zero c.stretch_round-round.new.self) in
-    let end = counted_over so.counted after c.stretch_round-round.result.turns c.stretch_round-round.result.last told.made.round
-    (sym c.is_end.ensures ∙ c.if-is_end.true) in
+    let end = counted_over so.counted after _ _ told.made.round (sym c.is_end.ensures ∙ c.if-is_end.true) in
     record {
       took = end.took_is;
       local = c.is_local.ensures ∙ end.local_is;
@@ -49,7 +45,5 @@ returns-then-is_end g c =
       looks = end.looks;
       alike = told.alike;
       workers = told.workers ∙ so.workers;
-      steps = λ one.
-          (let now = told.steps (so.workers ∙ one) in
-          let before = so.steps one in omega (arith, now, before));
+      steps = λ one. omega (arith, told.steps (so.workers ∙ one), so.steps one);
     }

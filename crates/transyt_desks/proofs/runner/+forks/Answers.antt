@@ -1,7 +1,6 @@
 -- The desks before the last have tried their moves by this thread, and the last has by its own.
-use Rattle.std.proofs.Common.{◌≡◌, ◌<◌, ◌++◌, List, length, slice_index_or, slice_set, refl, subst, sym, arith}
+use Rattle.std.proofs.Common.{◌≡◌, ◌<◌, length, refl, arith}
 use Rattle.transyt_desks.specs.declared.desk.Desk.{Desk}
-use Rattle.transyt_desks.specs.Stretches.{HasTried, HaveTried}
 use Rattle.transyt_desks.specs.Batches.{CanFollow}
 use Rattle.transyt_desks.proofs.ResultLaws.{found_more}
 use Rattle.transyt_desks.proofs.SplitLaws.{all_front, all_last}
@@ -10,28 +9,19 @@ use Rattle.transyt_desks.proofs.runner.+forks.Goals as goal
 pub Runner::try_moves_forked-returns-else-is_empty-2 : goal.Runner::try_moves_forked-returns-else-is_empty-2
 Runner::try_moves_forked-returns-else-is_empty-2 g t c =
     let split = c.split_at_mut-front in
-    let back = split.result.1.now in
     let some : 0 < length c.args.desks.now = grind (arith, c.is_empty.ensures, c.if-is_empty.false) in
-    let news : List Desk = c.try_moves_on_both.new.front ++ slice_set back 0 c.try_moves_on_both.new.last in
-    subst (λ (ds : List Desk). HaveTried c.args.job.zero.now.net c.args.job.batch ds news) (sym split.ensures.value)
-    (found_more c.args.job.zero.now.net c.args.job.batch split.result.0.now c.try_moves_on_both.new.front back
-    c.index-last-0-else-is_empty-2.result c.try_moves_on_both.new.last (omega (arith, split.ensures.back_len, some))
-    c.try_moves_on_both.ensures.front c.try_moves_on_both.ensures.last)
+    rw split.ensures.value (found_more _ _ _ _ _ _ _ (omega (arith, split.ensures.back_len, some)) c.try_moves_on_both.ensures.front
+    c.try_moves_on_both.ensures.last)
 
 -- a desk alone has tried its moves
 pub Runner::try_moves_forked-returns-then-is_empty-2 : goal.Runner::try_moves_forked-returns-then-is_empty-2
 Runner::try_moves_forked-returns-then-is_empty-2 g t c =
     let split = c.split_at_mut-front in
-    let back = split.result.1.now in
     let some : 0 < length c.args.desks.now = grind (arith, c.is_empty.ensures, c.if-is_empty.false) in
     let none : length split.result.0.now ≡ 0 = grind (arith, c.is_empty-2.ensures, c.if-is_empty-2.true) in
-    let news : List Desk = split.result.0.now ++ slice_set back 0 c.try_moves_at_gate.new.desk in
-    subst (λ (ds : List Desk). HaveTried c.args.job.zero.now.net c.args.job.batch ds news) (sym split.ensures.value)
-    (found_more c.args.job.zero.now.net c.args.job.batch split.result.0.now split.result.0.now back c.index-last-0.result c.try_moves_at_gate.new.desk
+    rw split.ensures.value (found_more _ _ _ _ split.result.1.now c.index-last-0.result c.try_moves_at_gate.new.desk
     (omega (arith, split.ensures.back_len, some))
-    (record { len = refl; each = λ k d less. absurd (omega (arith, none, less)) })
-    (subst (λ n. HasTried c.args.job.zero.now.net c.args.job.batch n (slice_index_or back 0 c.index-last-0.result) c.try_moves_at_gate.new.desk) (sym none)
-    c.try_moves_at_gate.ensures))
+    (record { len = refl; each = λ k d less. absurd (omega (arith, none, less)) }) (rw none c.try_moves_at_gate.ensures))
 
 pub Runner::try_moves_forked-try_moves_at_gate-requires-clause-ready : goal.Runner::try_moves_forked-try_moves_at_gate-requires-clause-ready
 Runner::try_moves_forked-try_moves_at_gate-requires-clause-ready g t c κs within =

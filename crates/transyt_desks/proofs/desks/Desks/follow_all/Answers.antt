@@ -1,9 +1,10 @@
 -- All of the crew stand for the network of desk 0.
-use Rattle.std.proofs.Common.{ℕ, ◌<◌, List, length, slice_index_or, false, refl, sym, ap, ◌∙◌, subst, arith}
+use Rattle.std.proofs.Common.{◌≡◌, ℕ, ◌<◌, List, length, slice_index_or, false, refl, sym, ap, ◌∙◌, subst, arith}
+use Rattle.std.specs.Vec.{with_items}
 use Rattle.std.proofs.lemmas.List.{with_items_is}
 use Rattle.transyt_desks.specs.declared.desk.Desk.{Desk}
 use Rattle.transyt_desks.specs.Batches.{CanFollow}
-use Rattle.transyt_desks.specs.Desks.{desks_of, sessions_of, AreAligned, AreAlike, AreDesks}
+use Rattle.transyt_desks.specs.Desks.{sessions_of, AreAligned, AreAlike}
 use Rattle.transyt_desks.proofs.BatchLaws.{all_standing}
 use Rattle.transyt_desks.proofs.CrewLaws.{each_can}
 use Rattle.transyt_desks.proofs.DeskLaws.{known_aligned, sessions_count, standing_aligned, standing_are}
@@ -24,20 +25,18 @@ try_moves_forked-requires-clause-ready g c κs within =
 
 pub returns-clause-aligned : goal.returns-clause-aligned
 returns-clause-aligned g c =
-    let olds = c.self.inside.crew.items in
     let news = c.try_moves_forked.new.desks in
-    let written = with_items_is c.self.inside.crew news (c.try_moves_forked.ensures.len ∙ c.as_mut_slice.ensures.len) in
-    subst (λ ds. AreAligned (desks_of c.self.inside.zero (sessions_of ds))) (sym written)
-    (standing_aligned c.self.inside.zero (sessions_of olds) (sessions_of news) c.self.inside.in_step c.self.invariant
-    (omega (arith, sessions_count olds, sessions_count news, c.try_moves_forked.ensures.len, ap length c.as_mut_slice.ensures.value))
-    (all_standing c.self.inside.zero.net _ c.as_mut_slice.result.now news c.try_moves_forked.ensures refl))
+    let told = c.try_moves_forked.ensures in
+    standing_aligned c.self.inside.zero _ (all_standing c.self.inside.zero _ c.as_mut_slice.result.now news told refl _
+    (with_items_is c.self.inside.crew news (told.len ∙ c.as_mut_slice.ensures.len)))
 
 pub invariant_of-self : goal.invariant_of-self
 invariant_of-self g c =
-    let olds = c.self.inside.crew.items in
+    let crew = c.self.inside.crew in
     let news = c.try_moves_forked.new.desks in
-    let written = with_items_is c.self.inside.crew news (c.try_moves_forked.ensures.len ∙ c.as_mut_slice.ensures.len) in
-    subst (λ ds. AreDesks c.self.inside.zero (sessions_of ds) c.len-count.result) (sym written)
-    (standing_are c.self.inside.zero (sessions_of olds) (sessions_of news) c.self.inside.in_step c.self.invariant
-    (omega (arith, sessions_count olds, sessions_count news, c.try_moves_forked.ensures.len, ap length c.as_mut_slice.ensures.value))
-    (all_standing c.self.inside.zero.net _ c.as_mut_slice.result.now news c.try_moves_forked.ensures refl) c.len-count.result)
+    let told = c.try_moves_forked.ensures in
+    let ends = (with_items crew news).items in
+    let ends_are : ends ≡ news = with_items_is crew news (told.len ∙ c.as_mut_slice.ensures.len) in
+    standing_are c.self.inside.zero (sessions_of crew.items) (sessions_of ends) c.self.inside.in_step c.len-count.result
+    c.self.invariant (omega (arith, sessions_count crew.items, sessions_count ends, ap length ends_are, told.len, ap length c.as_mut_slice.ensures.value))
+    (all_standing c.self.inside.zero _ c.as_mut_slice.result.now news told refl ends ends_are)

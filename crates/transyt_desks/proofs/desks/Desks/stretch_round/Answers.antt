@@ -1,17 +1,12 @@
 -- Desk 0 goes on alone, or the desks try, which are several then.
-use Rattle.std.proofs.Common.{length, subst, arith}
-use Rattle.transyt_climb.specs.Turns.{machine}
-use Rattle.transyt_desks.specs.Desks.{desk_zero}
-use Rattle.transyt_desks.specs.Rounds.{MakesRound}
+use Rattle.std.proofs.Common.{length, sym, arith}
 use Rattle.transyt_desks.proofs.RoundLaws.{places_alone, places_together}
 use Rattle.transyt_desks.proofs.desks.Desks.stretch_round.Goals as goal
 
 pub returns-then-goes_alone-clause-made : goal.returns-then-goes_alone-clause-made
 returns-then-goes_alone-clause-made g c =
-    subst (λ n. MakesRound n (machine c.args.climber.now (desk_zero c.args.self.now))
-    (machine c.turn_at_zero.new.climber (desk_zero c.turn_at_zero.new.self)) c.turn_at_zero.result)
-    (places_alone (length c.args.self.now) c.count.result.number c.args.climber.now c.goes_alone.result c.count.ensures
-    c.goes_alone.ensures.value c.if-goes_alone.true) c.turn_at_zero.ensures.made.made
+    rw (sym (places_alone (length c.args.self.now) c.count.result.number c.args.climber.now c.goes_alone.result c.count.ensures
+    c.goes_alone.ensures.value c.if-goes_alone.true)) c.turn_at_zero.ensures.made.made
 
 pub returns-then-goes_alone-clause-alike : goal.returns-then-goes_alone-clause-alike
 returns-then-goes_alone-clause-alike g c = c.turn_at_zero.ensures.made.alike c.requires.alike
@@ -21,12 +16,9 @@ returns-then-goes_alone-clause-workers g c = c.turn_at_zero.ensures.made.workers
 
 pub returns-clause-made : goal.returns-clause-made
 returns-clause-made g c =
-    subst (λ n. MakesRound n (machine c.args.climber.now (desk_zero c.args.self.now))
-    (machine c.together.new.climber (desk_zero c.together.new.self)) c.together.result)
-    (places_together (length c.args.self.now) c.count.result.number c.args.climber.now c.goes_alone.result
+    rw (sym (places_together (length c.args.self.now) c.count.result.number c.args.climber.now c.goes_alone.result
     c.count.ensures c.goes_alone.ensures.value c.count-2.result.number c.split-split.result.desks.number c.split-split.result.each
-    c.if-goes_alone.false c.count-2.ensures c.split-split.ensures.desks c.split-split.ensures.each)
-    c.together.ensures.made
+    c.if-goes_alone.false c.count-2.ensures c.split-split.ensures.desks c.split-split.ensures.each)) c.together.ensures.made
 
 pub returns-clause-alike : goal.returns-clause-alike
 returns-clause-alike g c =

@@ -1,9 +1,11 @@
 -- The climb ends, or one turn of it is a round.
-use Rattle.std.proofs.Common.{◌<◌, length, refl, subst, arith}
+use Rattle.std.proofs.Common.{refl, subst, arith}
 use Rattle.transyt_climb.specs.Turns.{machine}
+use Rattle.transyt_desks.specs.declared.turns.Round.{Round}
 use Rattle.transyt_desks.specs.Desks.{desk_zero, desks_of, sessions_of}
 use Rattle.transyt_desks.specs.Rounds.{MakesRound, RoundsDesks}
-use Rattle.transyt_desks.proofs.RoundLaws.{makes_turn, round_shape, rounds_end, rounds_lent, turns_one}
+use Rattle.transyt_desks.proofs.RoundLaws.{makes_turn, rounds_end, rounds_lent, turns_one}
+use Rattle.transyt_desks.proofs.ShapeLaws.{shape_round}
 use Rattle.transyt_desks.proofs.desks.Desks.turn_at_zero.Goals as goal
 
 pub returns-in-Some-clause-made : goal.returns-in-Some-clause-made
@@ -20,12 +22,11 @@ returns-clause-made g c =
     let session = c.turn-last.new.session in
     let desks = desks_of zero (sessions_of c.self.inside.crew.items) in
     let told = c.turn-last.ensures in
-    let made : MakesRound 1 (machine before zero) (machine after session) (record { turns = 1; last = c.turn-last.result }) =
+    let result : Round = record { turns = 1; last = c.turn-last.result } in
+    let made : MakesRound 1 (machine before zero) (machine after session) result =
     makes_turn 1 (machine before zero) (machine after session) c.turn-last.result
     (turns_one (machine before zero) (c.end_of.ensures.since c.in_default.is) (c.end_of.ensures.looked c.in_default.is))
     told.answer told.state told.kept told.closed told.few in
-    let some : 0 < length desks = omega arith in
-    subst (λ ds. RoundsDesks 1 before ds after (desks_of session (sessions_of c.self.inside.crew.items))
-    (record { turns = 1; last = c.turn-last.result })) c.self.view_is
-    (rounds_lent 1 1 before after desks desks zero session (record { turns = 1; last = c.turn-last.result }) refl some refl
-    (λ alike. alike) refl (round_shape 1 before after zero session (record { turns = 1; last = c.turn-last.result }) made) made)
+    subst (λ ds. RoundsDesks 1 before ds after (desks_of session (sessions_of c.self.inside.crew.items)) result) c.self.view_is
+    (rounds_lent 1 before after desks desks session result (omega arith) refl (λ alike. alike)
+    (shape_round (machine before zero) (machine after session) 1 c.turn-last.result made.round) made)
