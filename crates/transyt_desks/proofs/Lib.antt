@@ -2,7 +2,6 @@ pub mod TriedLaws
 pub mod PassingLaws
 pub mod LeastLaws
 pub mod DeskLaws
-pub mod SplitLaws
 pub mod ResultLaws
 pub mod ShapeLaws
 pub mod StretchLaws

@@ -1,9 +1,6 @@
 -- The desks before the last have tried their moves by this thread, and the last has by its own.
 use Rattle.std.proofs.Common.{◌≡◌, ◌<◌, length, refl, arith}
-use Rattle.transyt_desks.specs.declared.desk.Desk.{Desk}
-use Rattle.transyt_desks.specs.Batches.{CanFollow}
 use Rattle.transyt_desks.proofs.ResultLaws.{found_more}
-use Rattle.transyt_desks.proofs.SplitLaws.{all_front, all_last}
 use Rattle.transyt_desks.proofs.runner.+forks.Goals as goal
 
 pub Runner::try_moves_forked-returns-else-is_empty-2 : goal.Runner::try_moves_forked-returns-else-is_empty-2
@@ -22,23 +19,3 @@ Runner::try_moves_forked-returns-then-is_empty-2 g t c =
     rw split.ensures.value (found_more _ _ _ _ split.result.1.now c.index-last-0.result c.try_moves_at_gate.new.desk
     (omega (arith, split.ensures.back_len, some))
     (record { len = refl; each = λ k d less. absurd (omega (arith, none, less)) }) (rw none c.try_moves_at_gate.ensures))
-
-pub Runner::try_moves_forked-try_moves_at_gate-requires-clause-ready : goal.Runner::try_moves_forked-try_moves_at_gate-requires-clause-ready
-Runner::try_moves_forked-try_moves_at_gate-requires-clause-ready g t c κs within =
-    let split = c.split_at_mut-front in
-    let some : 0 < length c.args.desks.now = grind (arith, c.is_empty.ensures, c.if-is_empty.false) in
-    all_last (λ (d : Desk). CanFollow c.args.job.zero.now.net c.args.job.batch.known d.session) c.args.desks.now split.result.0.now split.result.1.now split.ensures.value
-    c.requires.ready (omega (arith, split.ensures.back_len, some)) c.index-last-0.result
-
-pub Runner::try_moves_forked-try_moves_on_both-requires-clause-ready : goal.Runner::try_moves_forked-try_moves_on_both-requires-clause-ready
-Runner::try_moves_forked-try_moves_on_both-requires-clause-ready g t c κs within =
-    let split = c.split_at_mut-front in
-    all_front (λ (d : Desk). CanFollow c.args.job.zero.now.net c.args.job.batch.known d.session) c.args.desks.now split.result.0.now split.result.1.now split.ensures.value
-    c.requires.ready
-
-pub Runner::try_moves_forked-try_moves_on_both-requires-clause-last_ready : goal.Runner::try_moves_forked-try_moves_on_both-requires-clause-last_ready
-Runner::try_moves_forked-try_moves_on_both-requires-clause-last_ready g t c κs within =
-    let split = c.split_at_mut-front in
-    let some : 0 < length c.args.desks.now = grind (arith, c.is_empty.ensures, c.if-is_empty.false) in
-    all_last (λ (d : Desk). CanFollow c.args.job.zero.now.net c.args.job.batch.known d.session) c.args.desks.now split.result.0.now split.result.1.now split.ensures.value
-    c.requires.ready (omega (arith, split.ensures.back_len, some)) c.index-last-0-else-is_empty-2.result
