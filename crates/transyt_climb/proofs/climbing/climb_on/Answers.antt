@@ -1,5 +1,6 @@
 -- One turn more of a climb on its way is a round, whose step is counted, or its last.
 use Rattle.std.proofs.Common.{refl, sym, ◌∙◌, arith}
+use Rattle.transyt_climb.specs.Turns.{Machine, machine}
 use Rattle.transyt_climb.proofs.WayLaws.{round_one}
 use Rattle.transyt_climb.proofs.CountedLaws.{counted_start, counted_on, counted_over, fewer_left}
 use Rattle.transyt_climb.proofs.climbing.climb_on.Goals as goal
@@ -17,8 +18,9 @@ pub loop-turn-preserved : goal.loop-turn-preserved
 loop-turn-preserved g c =
     let so = c.loop-turn.invariant in
     let told = c.turn-turn.ensures in
+    let after : Machine = machine c.turn-turn.new.self c.turn-turn.new.session in
     record {
-      counted = counted_on so.counted _ _ _ (round_one _ _ _ told.answer told.state)
+      counted = counted_on so.counted after 1 _ (round_one _ after _ told.answer told.state)
           (sym c.is_end.ensures ∙ c.if-is_end.false) (omega (arith, told.few)) c.step_count-took.result
           c.step_count-took.ensures.value c.step_count-took.ensures.few;
       steps = omega (arith, told.steps, so.steps);
@@ -28,7 +30,8 @@ loop-turn-preserved g c =
 pub loop-turn-smaller : goal.loop-turn-smaller
 loop-turn-smaller g c =
     let told = c.turn-turn.ensures in
-    fewer_left c.loop-turn.invariant.counted.climbing _ _ _ (round_one _ _ _ told.answer told.state)
+    let after : Machine = machine c.turn-turn.new.self c.turn-turn.new.session in
+    fewer_left c.loop-turn.invariant.counted.climbing after 1 _ (round_one _ after _ told.answer told.state)
     (sym c.is_end.ensures ∙ c.if-is_end.false)
 
 -- the end
@@ -36,7 +39,8 @@ pub returns-then-is_end : goal.returns-then-is_end
 returns-then-is_end g c =
     let so = c.loop-turn.invariant in
     let told = c.turn-turn.ensures in
-    let end = counted_over so.counted _ _ _ (round_one _ _ _ told.answer told.state) (sym c.is_end.ensures ∙ c.if-is_end.true) in
+    let after : Machine = machine c.turn-turn.new.self c.turn-turn.new.session in
+    let end = counted_over so.counted after 1 _ (round_one _ after _ told.answer told.state) (sym c.is_end.ensures ∙ c.if-is_end.true) in
     record {
       took = end.took_is;
       local = c.is_local.ensures ∙ end.local_is;
