@@ -123,7 +123,7 @@ impl Climber {
     ///
     /// A look counts its work once, and makes as many steps, whether its move is kept or taken back. It takes no
     /// memory.
-    #[tactic(auto, unfolding(transyt_sweep::specs::Climb::lowers, transyt_sweep::specs::Climb::tried_at, transyt_sweep::specs::Climb::moved))]
+    #[tactic(auto, using(crate::proofs::LookLaws::count_looked), unfolding(transyt_sweep::specs::Climb::lowers, transyt_sweep::specs::Climb::tried_at, transyt_sweep::specs::Climb::moved))]
     pub fn turn<L: Ledger>(&mut self, session: &mut Session, steps: &mut Steps<L>) -> Turn
         requires count { self.old.count ≡ move_count session.old.net }
         requires closed { session.old.before ≡ None }
