@@ -43,41 +43,18 @@ its_terms arrivals room queued stopped delay stop = record {
 }
 
 -- link by link
-link_5 : (evaluated three_junctions 0).figures ≡ new_figures 4248952 5596446 140944 29640492
-unfolding sum_back greatest smoothed seen out_of evaluated
-link_5 = figures_by_root (its_terms 13599728 14441664 76481140 12685032 3 2) 47643865 (lit≤ tt) (lit< tt)
-
-link_2 : (evaluated three_junctions 1).figures ≡ new_figures 209567 54339 10478 1346668
-unfolding sum_back greatest smoothed seen out_of evaluated
-link_2 = figures_by_root (its_terms 2424996 24734721 3772216 943054 5 7) 669509108 (lit≤ tt) (lit< tt)
-
-link_9 : (evaluated three_junctions 2).figures ≡ new_figures 4055238 74990806 109427 158537455
-unfolding sum_back greatest smoothed seen out_of evaluated
-link_9 = figures_by_root (its_terms 15324984 10427776 72994296 9848440 2 11) 153046985 (lit≤ tt) (lit< tt)
-
-link_4 : (evaluated three_junctions 3).figures ≡ new_figures 2654935 616430 67423 13110406
-unfolding sum_back greatest smoothed seen out_of evaluated
-link_4 = figures_by_root (its_terms 8924480 16122216 47788847 6068106 4 1) 218397803 (lit≤ tt) (lit< tt)
-
-link_8 : (evaluated three_junctions 4).figures ≡ new_figures 4221950 12822216 149144 102540912
-unfolding sum_back greatest smoothed seen out_of evaluated
-link_8 = figures_by_root (its_terms 14183665 13881940 75995112 13422987 6 5) 42237116 (lit≤ tt) (lit< tt)
-
-link_3 : (evaluated three_junctions 5).figures ≡ new_figures 2594744 229508027 70016 232335924
-unfolding sum_back greatest smoothed seen out_of evaluated
-link_3 = figures_by_root (its_terms 21924990 6672220 46705404 6301526 1 9) 460449011 (lit≤ tt) (lit< tt)
-
-link_6 : (evaluated three_junctions 6).figures ≡ new_figures 886593 233233 18951 7859817
-unfolding sum_back greatest smoothed seen out_of evaluated
-link_6 = figures_by_root (its_terms 2349969 7372220 15958680 1705649 7 3) 151600464 (lit≤ tt) (lit< tt)
-
-link_11 : (evaluated three_junctions 7).figures ≡ new_figures 846351 351735 46325 10851335
-unfolding sum_back greatest smoothed seen out_of evaluated
-link_11 = figures_by_root (its_terms 6252317 15116670 15234329 4169314 9 4) 267337533 (lit≤ tt) (lit< tt)
-
--- all of them
 pub figures_come_out : map (λ l. (evaluated three_junctions l).figures) (range_with_len 0 8) ≡ figures_of_three
-figures_come_out = λ j. link_5 j ∷ link_2 j ∷ link_9 j ∷ link_4 j ∷ link_8 j ∷ link_3 j ∷ link_6 j ∷ link_11 j ∷ []
+unfolding sum_back greatest smoothed seen out_of evaluated
+figures_come_out = λ j.
+    figures_by_root (its_terms 13599728 14441664 76481140 12685032 3 2) 47643865 (lit≤ tt) (lit< tt) j
+    ∷ figures_by_root (its_terms 2424996 24734721 3772216 943054 5 7) 669509108 (lit≤ tt) (lit< tt) j
+    ∷ figures_by_root (its_terms 15324984 10427776 72994296 9848440 2 11) 153046985 (lit≤ tt) (lit< tt) j
+    ∷ figures_by_root (its_terms 8924480 16122216 47788847 6068106 4 1) 218397803 (lit≤ tt) (lit< tt) j
+    ∷ figures_by_root (its_terms 14183665 13881940 75995112 13422987 6 5) 42237116 (lit≤ tt) (lit< tt) j
+    ∷ figures_by_root (its_terms 21924990 6672220 46705404 6301526 1 9) 460449011 (lit≤ tt) (lit< tt) j
+    ∷ figures_by_root (its_terms 2349969 7372220 15958680 1705649 7 3) 151600464 (lit≤ tt) (lit< tt) j
+    ∷ figures_by_root (its_terms 6252317 15116670 15234329 4169314 9 4) 267337533 (lit≤ tt) (lit< tt) j
+    ∷ []
 
 -- and the index is the sum of theirs
 pub index_comes_out : index three_junctions ≡ 556223009

@@ -1,8 +1,5 @@
 -- A move that lowers the index of the three junctions: the offset of the first, four steps on.
-use Rattle.std.proofs.Common.{◌≡◌, ℕ, suc, ◌+◌, ◌%◌, List, [], ◌∷◌, Bool, true, false, Some, map, sum, ap, refl, ◌∙◌}
-use Rattle.std.proofs.Common.{lit<, lit≤, if◌then◌else◌}
-use Rattle.std.specs.Option.{option_map}
-use Rattle.std.specs.List.{range_with_len}
+use Rattle.std.proofs.Common.{◌≡◌, ℕ, suc, ◌+◌, ◌%◌, [], ◌∷◌, Bool, true, false, Some, map, sum, ap, refl, ◌∙◌, lit<, lit≤}
 use Rattle.transyt_delay.specs.declared.figures.Figures.{Figures}
 use Rattle.transyt_profile.specs.Platoon.{smoothed}
 use Rattle.transyt_profile.specs.StopLine.{sum_back, greatest}
@@ -13,66 +10,25 @@ use Rattle.transyt_moves.specs.Moves.{move, move_count}
 use Rattle.transyt_stage.specs.ThreeJunctions.{three_junctions}
 use Rattle.transyt_sweep.specs.Sweeps.{seen, out_of, evaluated, index}
 use Rattle.transyt_sweep.specs.Climb.{tried_at, is_below, lowers, least, first}
-use Rattle.transyt_sweep.specs.WorkedLinks.{new_figures}
 use Rattle.transyt_sweep.proofs.WorkedFigures.{figures_by_root, its_terms, index_comes_out}
 
 -- the three junctions with that offset
 abbrev moved_on : Network
 moved_on = with_edit three_junctions (Offset 21 8)
 
--- link by link
-link_5 : (evaluated moved_on 0).figures ≡ new_figures 4306411 5596446 143584 29814823
-unfolding sum_back greatest smoothed seen out_of evaluated
-link_5 = figures_by_root (its_terms 13599728 14441664 77515398 12922643 3 2) 47643865 (lit≤ tt) (lit< tt)
-
-link_2 : (evaluated moved_on 1).figures ≡ new_figures 209567 54339 10478 1346668
-unfolding sum_back greatest smoothed seen out_of evaluated
-link_2 = figures_by_root (its_terms 2424996 24734721 3772216 943054 5 7) 669509108 (lit≤ tt) (lit< tt)
-
-link_9 : (evaluated moved_on 2).figures ≡ new_figures 4055238 74990806 109427 158537455
-unfolding sum_back greatest smoothed seen out_of evaluated
-link_9 = figures_by_root (its_terms 15324984 10427776 72994296 9848440 2 11) 153046985 (lit≤ tt) (lit< tt)
-
-link_4 : (evaluated moved_on 3).figures ≡ new_figures 3022072 617760 91767 14593281
-unfolding sum_back greatest smoothed seen out_of evaluated
-link_4 = figures_by_root (its_terms 8933138 16122216 54397313 8259046 4 1) 218143381 (lit≤ tt) (lit< tt)
-
-link_8 : (evaluated moved_on 4).figures ≡ new_figures 4221950 12822216 149144 102540912
-unfolding sum_back greatest smoothed seen out_of evaluated
-link_8 = figures_by_root (its_terms 14183665 13881940 75995112 13422987 6 5) 42237116 (lit≤ tt) (lit< tt)
-
-link_3 : (evaluated moved_on 5).figures ≡ new_figures 2594744 229508027 70016 232335924
-unfolding sum_back greatest smoothed seen out_of evaluated
-link_3 = figures_by_root (its_terms 21924990 6672220 46705404 6301526 1 9) 460449011 (lit≤ tt) (lit< tt)
-
-link_6 : (evaluated moved_on 6).figures ≡ new_figures 886593 233233 18951 7859817
-unfolding sum_back greatest smoothed seen out_of evaluated
-link_6 = figures_by_root (its_terms 2349969 7372220 15958680 1705649 7 3) 151600464 (lit≤ tt) (lit< tt)
-
-link_11 : (evaluated moved_on 7).figures ≡ new_figures 449014 351923 23513 7243232
-unfolding sum_back greatest smoothed seen out_of evaluated
-link_11 = figures_by_root (its_terms 6254281 15116670 8082255 2116221 9 4) 267279364 (lit≤ tt) (lit< tt)
-
--- the figures of its links
-abbrev its_figures : List Figures
-its_figures =
-    new_figures 4306411 5596446 143584 29814823
-    ∷ new_figures 209567 54339 10478 1346668
-    ∷ new_figures 4055238 74990806 109427 158537455
-    ∷ new_figures 3022072 617760 91767 14593281
-    ∷ new_figures 4221950 12822216 149144 102540912
-    ∷ new_figures 2594744 229508027 70016 232335924
-    ∷ new_figures 886593 233233 18951 7859817
-    ∷ new_figures 449014 351923 23513 7243232
-    ∷ []
-
--- all of them
-figures_move : map (λ l. (evaluated moved_on l).figures) (range_with_len 0 8) ≡ its_figures
-figures_move = λ j. link_5 j ∷ link_2 j ∷ link_9 j ∷ link_4 j ∷ link_8 j ∷ link_3 j ∷ link_6 j ∷ link_11 j ∷ []
-
--- its index
+-- its index, link by link
 index_moves : index moved_on ≡ 554272112
-index_moves = ap (λ (fs : List Figures). sum (map (λ (f : Figures). f.index) fs)) figures_move
+unfolding sum_back greatest smoothed seen out_of evaluated
+index_moves = λ j. sum (map (λ (f : Figures). f.index) (
+    figures_by_root (its_terms 13599728 14441664 77515398 12922643 3 2) 47643865 (lit≤ tt) (lit< tt) j
+    ∷ figures_by_root (its_terms 2424996 24734721 3772216 943054 5 7) 669509108 (lit≤ tt) (lit< tt) j
+    ∷ figures_by_root (its_terms 15324984 10427776 72994296 9848440 2 11) 153046985 (lit≤ tt) (lit< tt) j
+    ∷ figures_by_root (its_terms 8933138 16122216 54397313 8259046 4 1) 218143381 (lit≤ tt) (lit< tt) j
+    ∷ figures_by_root (its_terms 14183665 13881940 75995112 13422987 6 5) 42237116 (lit≤ tt) (lit< tt) j
+    ∷ figures_by_root (its_terms 21924990 6672220 46705404 6301526 1 9) 460449011 (lit≤ tt) (lit< tt) j
+    ∷ figures_by_root (its_terms 2349969 7372220 15958680 1705649 7 3) 151600464 (lit≤ tt) (lit< tt) j
+    ∷ figures_by_root (its_terms 6254281 15116670 8082255 2116221 9 4) 267279364 (lit≤ tt) (lit< tt) j
+    ∷ []))
 
 -- so a try of that move finds it
 pub tried_first : tried_at three_junctions 0 ≡ Some 554272112
@@ -86,12 +42,7 @@ lowers_first = λ j. is_below (index_comes_out j) (tried_first j)
 
 -- the second is the least that passes where it does and the first doesn't
 second_passes : (test : ℕ → Bool) (n : ℕ) → test 0 ≡ false → test 1 ≡ true → least test (suc (suc n)) ≡ Some 1
-second_passes test n fails passes =
-    ap (λ b. if b then Some 0 else option_map (λ r. r + 1) (least (λ r. test (r + 1)) (suc n))) fails
-    ∙ ap
-    (λ b. option_map (λ r. r + 1)
-    (if b then Some 0 else option_map (λ r. r + 1) (least (λ r. test (r + 1 + 1)) n)))
-    passes
+second_passes test n fails passes = rw (fails, passes) refl
 
 -- the last move is barred
 barred_last : lowers three_junctions 71 ≡ false
