@@ -13,13 +13,6 @@ use Rattle.transyt_sweep.specs.Front.{AreMixed, is_before}
 use Rattle.transyt_kept.proofs.PairLaws.{out_here, out_elsewhere, out_shown}
 use Rattle.transyt_sweep.proofs.ReadLaws.{cell_same}
 
--- each row that is read stands before the link, at its sweep or the one before
-read_within : (s l j sweeps : ℕ) → s ≤ sweeps → read_at s l j ≤ sweeps
-read_within s l j sweeps swept = grind (arith, nat_tests)
-
-read_before : (s l j : ℕ) → 1 ≤ s → is_before (read_at s l j) j s l ≡ true
-read_before s l j first = grind (arith, nat_tests)
-
 pub before_self : (s l : ℕ) → is_before s l s (l + 1) ≡ true
 before_self s l = grind (arith, nat_tests)
 
@@ -91,14 +84,11 @@ pub cell_is : (net : Network) (g : ℕ → ℕ → List ℕ) (s l : ℕ) (rows :
     → 1 ≤ s → s ≤ net.frame.sweeps → l < length net.links → cell_by net (read_in rows s l) l ≡ cell_at net s l
 cell_is net g s l rows mixed first swept inside =
     cell_same net (read_in rows s l) (read_of net s l) (omega arith)
-    (λ j there. mixed.outs (read_at s l j) j (read_within s l j net.frame.sweeps swept) there
-    ∙ ap (λ b. cond b (read_of net s l j) (g (read_at s l j) j)) (read_before s l j first))
+    (λ j there. let before : is_before (read_at s l j) j s l ≡ true = grind (arith, nat_tests) in
+    mixed.outs (read_at s l j) j (grind (arith, nat_tests)) there
+    ∙ ap (λ b. cond b (read_of net s l j) (g (read_at s l j) j)) before)
     l
 
--- at an earlier sweep nothing of a later one is worked out
-pub not_before : (t k s l : ℕ) → s < t → is_before t k s l ≡ false
-not_before t k s l later = grind (arith, nat_tests)
-
--- nor at the first link of its own
+-- at the first link of its own sweep none is worked out, nor at an earlier one
 pub not_before_first : (t k s : ℕ) → s ≤ t → is_before t k s 0 ≡ false
 not_before_first t k s later = grind (arith, nat_tests)

@@ -1,32 +1,10 @@
 -- Platoons of a group: the first three or four of four.
-use Rattle.std.proofs.Common.{◌≡◌, ℕ, ◌-◌, ◌<◌, ◌≤◌, List, [], ◌∷◌, length, take, get_or, arith}
-use Rattle.std.specs.List.{All}
-use Rattle.std.proofs.lemmas.List.{length-take-le}
-use Rattle.std.proofs.lemmas.List.Elements.{All-nil, All-cons, All-take}
+use Rattle.std.proofs.Common.{◌≡◌, ℕ, ◌-◌, List, [], ◌∷◌, length, take, get_or, arith}
 use Rattle.transyt_profile.specs.declared.platoon.Platoon.{Platoon}
 use Rattle.transyt_profile.specs.Arriving.{arriving, with_arriving}
 use Rattle.transyt_profile.specs.Profile.{added}
 use Rattle.transyt_sweep.specs.declared.factors.Factors.{Factors}
 use Rattle.transyt_sweep.specs.Inflow.{IsGroup, carried, with_carried}
-
--- each of them leaves in so many steps where all four do
-pub are_as_long : (n count : ℕ) (a b c d : Platoon) → length a.leaving.now ≡ n → length b.leaving.now ≡ n
-    → length c.leaving.now ≡ n → length d.leaving.now ≡ n
-    → All (λ p. length p.leaving.now ≡ n) (take count (a ∷ b ∷ c ∷ d ∷ []))
-are_as_long n count a b c d first second third fourth =
-    let Long : Platoon → Type 0 = λ p. length p.leaving.now ≡ n in
-    All-take Long count (a ∷ b ∷ c ∷ d ∷ [])
-    (All-cons Long a (b ∷ c ∷ d ∷ []) first (All-cons Long b (c ∷ d ∷ []) second
-    (All-cons Long c (d ∷ []) third (All-cons Long d [] fourth (All-nil Long)))))
-
--- there are some, and at most four
-pub some_taken : (count : ℕ) (a b c d : Platoon) → IsGroup count → 0 < length (take count (a ∷ b ∷ c ∷ d ∷ []))
-some_taken count a b c d group =
-    omega (arith, group, length-take-le count (a ∷ b ∷ c ∷ d ∷ []) group.few)
-
-pub few_taken : (count : ℕ) (a b c d : Platoon) → IsGroup count → length (take count (a ∷ b ∷ c ∷ d ∷ [])) ≤ 4
-few_taken count a b c d group =
-    omega (arith, group, length-take-le count (a ∷ b ∷ c ∷ d ∷ []) group.few)
 
 -- what they bring is what the factors of the slots bring, whose last has the fourth
 pub group_carried : (read : ℕ → List ℕ) (come : List ℕ) (slots : List Factors) (a b c d : Platoon)

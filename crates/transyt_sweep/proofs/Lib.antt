@@ -1,5 +1,4 @@
 pub mod SweepLaws
-pub mod FactorLaws
 pub mod FeederLaws
 pub mod InflowLaws
 pub mod SendingLaws

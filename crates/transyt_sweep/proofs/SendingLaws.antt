@@ -1,26 +1,18 @@
--- The part of a feed that goes on by the factors that serve it.
-use Rattle.std.proofs.Common.{◌≡◌, ℕ, suc, List, [], ◌∷◌}
-use Rattle.std.proofs.Common.{refl, ap, ◌∙◌, arith}
+-- The arrivals by factors that serve feeds.
+use Rattle.std.proofs.Common.{◌≡◌, ℕ, suc, List, [], ◌∷◌, refl, ap, ◌∙◌, arith}
 use Rattle.transyt_profile.specs.Profile.{shared, added}
+use Rattle.transyt_profile.specs.Platoon.{dispersed}
 use Rattle.transyt_parts.specs.declared.link.Feed.{Feed}
 use Rattle.transyt_net.specs.Parts.{Network}
-use Rattle.transyt_sweep.specs.Cell.{taken, brought}
-use Rattle.transyt_sweep.specs.Inflow.{ServeIn, taken_by, AreServed, Served, carried, with_carried, with_feeds}
+use Rattle.transyt_sweep.specs.Cell.{brought}
+use Rattle.transyt_sweep.specs.Inflow.{ServeIn, AreServed, Served, carried, with_carried, with_feeds}
 use Rattle.transyt_sweep.specs.declared.factors.Factors.{Factors}
-use Rattle.transyt_sweep.proofs.InflowLaws.{brought_by}
 
--- factors that serve a feed take the feed's part
-pub taken_served : (net : Network) (read : ℕ → List ℕ) (f : Feed) (factors : Factors) → ServeIn net f factors
-    → taken_by read factors ≡ taken net read f
-taken_served net read f factors serve =
-    (λ j. shared (serve.flow j) (serve.whole j) (read (serve.feeder j)))
-
--- so the arrivals by them are those of the feed
-pub carried_served : (net : Network) (read : ℕ → List ℕ) (f : Feed) (factors : Factors)
+-- the arrivals by factors that serve a feed are those of the feed
+carried_served : (net : Network) (read : ℕ → List ℕ) (f : Feed) (factors : Factors)
     → ServeIn net f factors → carried read factors ≡ brought net read f
 carried_served net read f factors serve =
-    brought_by net read f (taken_by read factors) (carried read factors) factors.travel.time factors.travel.percent refl
-    (taken_served net read f factors serve) serve.time serve.percent
+    (λ j. dispersed (shared (serve.flow j) (serve.whole j) (read (serve.feeder j))) (serve.time j) (serve.percent j))
 
 -- and the arrivals by slots that serve feeds are those of the feeds
 pub with_served : (net : Network) (read : ℕ → List ℕ) (come : List ℕ) (feeds : List Feed) (slots : List Factors)

@@ -1,17 +1,17 @@
 -- The last sweep of an evaluation, link by link.
-use Rattle.std.proofs.Common.{◌≡◌, ◌≢◌, ℕ, ◌+◌, ◌<◌, ◌≤◌, true, false, cond, length, ap, sym, ◌∙◌, arith}
+use Rattle.std.proofs.Common.{◌≡◌, ◌≢◌, ℕ, ◌+◌, ◌<◌, ◌≤◌, true, false, length, ap, sym, ◌∙◌, arith}
 use Rattle.std.proofs.Common.{◌==◌, ◌⊎◌, inl, inr}
 use Rattle.std.proofs.lemmas.Bool.{cases_eq}
 use Rattle.std.proofs.lemmas.Bool.Decides.{nat_tests}
 use Rattle.transyt_net.specs.Parts.{Network}
 use Rattle.transyt_sweep.specs.Cell.{CellValue}
 use Rattle.transyt_sweep.specs.Sweeps.{cell_at, evaluated}
-use Rattle.transyt_kept.specs.Rows.{RowsValue, with_out, with_rest, placed, shown_at, AreRows}
+use Rattle.transyt_kept.specs.Rows.{RowsValue, placed, shown_at, AreRows}
 use Rattle.transyt_sweep.specs.Reading.{Fits}
 use Rattle.transyt_sweep.specs.Front.{AreShown, is_before}
 use Rattle.transyt_sweep.proofs.SweepLaws.{evaluated_is}
 use Rattle.transyt_kept.proofs.ShownLaws.{put_shown, shown_here, shown_elsewhere}
-use Rattle.transyt_sweep.proofs.FrontLaws.{before_other, not_before}
+use Rattle.transyt_sweep.proofs.FrontLaws.{before_other}
 
 -- one link more
 pub shown_put : (net : Network) (s l : ℕ) (rows : RowsValue) (c : CellValue) → Fits net rows → AreRows rows
@@ -27,8 +27,7 @@ shown_put net s l rows c fits kept shown swept inside made k there before =
         → shown_at (placed rows s l c) k ≡ evaluated net k
     by (inl last) which =
         let test : (s == rows.sweeps) ≡ true = grind (arith, nat_tests) in
-        (λ j. shown_at (cond (test j) (with_rest (with_out rows (last j) l c.out) l c) (with_out rows s l c.out)) k)
-        ∙ at which
+        rw (test, last) (at which)
       where
         at : (k ≡ l) ⊎ (k ≡ l → ⊥) → shown_at (put_shown rows l c) k ≡ evaluated net k
         at (inl same) =
@@ -42,6 +41,6 @@ shown_put net s l rows c fits kept shown swept inside made k there before =
             shown_elsewhere rows kept l c inside_in k (omega (arith, fits.link_count)) other
             ∙ shown k there (sym (before_other net.frame.sweeps k s l (λ _ e. other e)) ∙ before)
     by (inr other) which =
-        let under : s < net.frame.sweeps = let apart : s ≢ rows.sweeps = other in omega (arith, fits.sweeps) in
-        let none : is_before net.frame.sweeps k s (l + 1) ≡ false = not_before net.frame.sweeps k s (l + 1) under in
+        let apart : s ≢ rows.sweeps = other in
+        let none : is_before net.frame.sweeps k s (l + 1) ≡ false = grind (arith, nat_tests, fits.sweeps) in
         absurd (cc)

@@ -1,24 +1,13 @@
 -- The slots of a group's factors.
-use Rattle.std.proofs.Common.{ℕ, ◌+◌, ◌<◌, List, ◌++◌, length, set, take, drop, get_or, sym, subst, arith}
+use Rattle.std.proofs.Common.{ℕ, ◌+◌, ◌<◌, List, length, set, get_or, sym, subst, arith}
 use Rattle.std.specs.List.{All}
-use Rattle.std.proofs.lemmas.List.Elements.{All-append, All-take, All-drop}
 use Rattle.std.proofs.lemmas.List.{get_or-set_same, get_or-set_other}
 use borrow.Author.Count.{below_more}
-use borrow.Rule.Slice.PartMut.{put_mid}
 use Rattle.transyt_net.specs.Parts.{Network}
 use Rattle.transyt_parts.specs.declared.link.Feed.{Feed}
 use Rattle.transyt_sweep.specs.declared.factors.Factors.{Factors}
 use Rattle.transyt_sweep.specs.Inflow.{AreFactors, no_feed, AreServed, AreSendable, Served}
 use Rattle.transyt_sweep.specs.declared.inputs.Inputs.{Inputs}
-
--- slots that are right again leave all right
-pub are_put : (n place count : ℕ) (kept slots : List Factors) → All (AreFactors n) kept → All (AreFactors n) slots
-    → All (AreFactors n) (put_mid place count kept slots)
-are_put n place count kept slots are right =
-    All-append (AreFactors n) (take place kept) (slots ++ drop count (drop place kept))
-    (All-take (AreFactors n) place kept are)
-    (All-append (AreFactors n) slots (drop count (drop place kept)) right
-    (All-drop (AreFactors n) count (drop place kept) (All-drop (AreFactors n) place kept are)))
 
 -- factors that serve can be sent
 pub sendable : (inputs : Inputs) (feeds : List Feed) (slots : List Factors) → AreServed inputs.net.now feeds slots

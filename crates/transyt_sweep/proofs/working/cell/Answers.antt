@@ -1,24 +1,24 @@
 -- The rows that were filled are those of the link that is worked out.
-use Rattle.std.proofs.Common.{◌≡◌, ◌*◌, ℕ, length, All, subst, sym, ap, ◌∙◌, Vec, Global}
+use Rattle.std.proofs.Common.{◌≡◌, ◌*◌, ℕ, length, All, subst, sym, ap, ◌∙◌, arith, Vec, Global}
 use Rattle.std.proofs.lemmas.List.{with_items_is}
 use Rattle.transyt_parts.specs.declared.frame.Frame.{Frame}
 use Rattle.transyt_sweep.specs.Cell.{CellValue}
 use Rattle.transyt_sweep.specs.Inflow.{AreFactors}
 use Rattle.transyt_sweep.specs.Reading.{read_in}
-use Rattle.transyt_sweep.proofs.StepLaws.{length-inflow, some_steps, most_steps}
+use Rattle.transyt_sweep.proofs.StepLaws.{length-inflow}
 use Rattle.transyt_sweep.proofs.working.cell.Goals as goal
 
 -- the rows have the network's steps, sweeps and links
 pub invariant_of-inputs : goal.invariant_of-inputs
 invariant_of-inputs g c =
     let steps = ap (λ (f : Frame). f.step_count) c.frame.ensures.value in
-    let limits = c.frame.ensures.valid.sound.frame in
+    let limits = c.frame.ensures.valid.sound.frame.step_count in
     record {
       link_within = c.requires.link;
       sweep_within = c.requires.last;
       steps = steps;
-      some = some_steps c.args.net.now.frame c.frame.result.step_count limits steps;
-      most = most_steps c.args.net.now.frame c.frame.result.step_count limits steps;
+      some = omega (arith, limits, steps);
+      most = omega (arith, limits, steps);
       rows_steps = c.requires.fits.step_count ∙ sym steps;
       rows_sweeps = c.requires.fits.sweeps;
       rows_links = c.requires.fits.link_count;

@@ -1,17 +1,12 @@
 -- A group of feeds more, and those that are left.
 use Rattle.std.proofs.Common.{ℕ, ◌+◌, ◌-◌, ◌*◌, ◌^◌, length, drop, arith, rules}
 use Rattle.std.proofs.lemmas.List.{length-take}
+use Rattle.std.proofs.lemmas.Grind.{pieces}
+use Rattle.std.proofs.Math.Seq.{take-length}
 use Rattle.transyt_profile.specs.Profile.{folded}
 use Rattle.transyt_sweep.specs.Inflow.{read_by}
-use Rattle.transyt_sweep.proofs.InflowLaws.{feeds_next, feeds_rest, room_next, small_next}
-use Rattle.transyt_sweep.proofs.SlotLaws.{are_put}
+use Rattle.transyt_sweep.proofs.InflowLaws.{feeds_next, room_next}
 use Rattle.transyt_sweep.proofs.feeds.Feeds.add_all.Goals as goal
-
--- a group of small feeds
-pub invariant_of-next-clause-small : goal.invariant_of-next-clause-small
-invariant_of-next-clause-small c =
-    small_next c.groups.done (c.groups.done + c.group-count.result - c.groups.done) c.args.self.now.list.now
-    c.args.self.now.small
 
 -- a group has room
 pub add_together-requires-clause-turns : goal.add_together-requires-clause-turns
@@ -31,11 +26,10 @@ groups-preserved c =
       within = omega (arith, c.group-count.ensures.within, c.groups-test.true);
       room = search rules;
       turns = search rules;
-      slots = are_put c.args.self.now.inputs.now.net.now.frame.step_count p (p + k - p) c.groups.slots c.add_together.new.slots
-          c.groups.invariant.slots c.add_together.ensures.slots;
+      slots = search (pieces, arith);
       value = feeds_next c.args.self.now.inputs.now.net.now (read_by c.args.self.now.inputs.now) (folded n c.args.turns.now)
-          c.args.self.now.list.now p k (folded n c.groups.turns) (folded n c.add_together.new.turns)
-          c.groups.invariant.value c.add_together.ensures.value;
+          c.args.self.now.list.now p (p + k - p) (p + k) (folded n c.groups.turns) (folded n c.add_together.new.turns)
+          (omega arith) c.groups.invariant.value c.add_together.ensures.value;
       grows = λ limit within j d h. omega (
         arith,
         length-take (p + k - p) (drop p c.args.self.now.list.now),
@@ -43,11 +37,7 @@ groups-preserved c =
       );
     }
 
--- those that are left are small, few, and have room
-pub invariant_of-rest-clause-small : goal.invariant_of-rest-clause-small
-invariant_of-rest-clause-small c =
-    small_next c.groups.done (length c.args.self.now.list.now - c.groups.done) c.args.self.now.list.now c.args.self.now.small
-
+-- those that are left have room
 pub add_each-requires-clause-turns : goal.add_each-requires-clause-turns
 add_each-requires-clause-turns c =
     let p : ℕ = c.groups.done in
@@ -60,8 +50,10 @@ pub returns-clause-value : goal.returns-clause-value
 returns-clause-value c =
     let n : ℕ = c.args.self.now.inputs.now.step_count in
     let p : ℕ = c.groups.done in
-    feeds_rest c.args.self.now.inputs.now.net.now (read_by c.args.self.now.inputs.now) (folded n c.args.turns.now) c.args.self.now.list.now
-    p (folded n c.groups.turns) (folded n c.add_each.new.turns) c.groups.invariant.value c.add_each.ensures.value
+    let all = c.args.self.now.list.now in
+    rw (← take-length all) (feeds_next c.args.self.now.inputs.now.net.now (read_by c.args.self.now.inputs.now) (folded n c.args.turns.now)
+    all p (length all - p) (length all) (folded n c.groups.turns) (folded n c.add_each.new.turns)
+    (omega (arith, c.groups.invariant.within)) c.groups.invariant.value c.add_each.ensures.value)
 
 pub returns-clause-grows : goal.returns-clause-grows
 returns-clause-grows c = λ limit within j d h.

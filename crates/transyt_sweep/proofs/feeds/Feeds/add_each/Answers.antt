@@ -1,8 +1,10 @@
 -- One feed more.
-use Rattle.std.proofs.Common.{ℕ, ◌+◌, ◌-◌, ◌*◌, ◌^◌, length, arith, rules}
-use Rattle.transyt_profile.specs.Profile.{folded}
+use Rattle.std.proofs.Common.{ℕ, ◌+◌, ◌-◌, ◌*◌, ◌^◌, List, length, get_or, ap, sym, ◌∙◌, arith, rules}
+use Rattle.std.proofs.lemmas.List.Sums.{fold_more}
+use Rattle.transyt_profile.specs.Profile.{folded, added}
 use Rattle.transyt_sweep.specs.Inflow.{no_feed, read_by}
-use Rattle.transyt_sweep.proofs.InflowLaws.{feeds_more}
+use Rattle.transyt_sweep.specs.Cell.{brought}
+use Rattle.transyt_parts.specs.declared.link.Feed.{Feed}
 use Rattle.transyt_sweep.proofs.feeds.Feeds.add_each.Goals as goal
 
 pub add-requires-clause-turns : goal.add-requires-clause-turns
@@ -20,12 +22,14 @@ add-requires-clause-turns c =
 
 pub feeds-preserved : goal.feeds-preserved
 feeds-preserved c =
+    let feeds = c.args.self.now.list.now in
+    let more : List ℕ → Feed → List ℕ = λ come f.
+    added come (brought c.args.self.now.inputs.now.net.now (read_by c.args.self.now.inputs.now) f) in
     let n : ℕ = c.args.self.now.inputs.now.step_count in
     record {
       turns = search rules;
-      value = feeds_more c.args.self.now.inputs.now.net.now (read_by c.args.self.now.inputs.now) (folded n c.args.turns.now)
-          c.args.self.now.list.now c.feeds.i no_feed (folded n c.feeds.turns) (folded n c.add.new.turns)
-          c.feeds-test.true c.feeds.invariant.value c.add.ensures.value;
+      value = c.add.ensures.value ∙ ap (λ come. more come (get_or feeds c.feeds.i no_feed)) c.feeds.invariant.value
+          ∙ sym (fold_more more (folded n c.args.turns.now) feeds c.feeds.i no_feed c.feeds-test.true);
       grows = λ limit within j d h. omega (
         arith,
         c.add.ensures.grows (limit + c.feeds.i * 2 ^ 44) (c.feeds.invariant.grows limit within) j d h,

@@ -1,9 +1,11 @@
 -- Three or four of the four platoons are sent, which bring what the slots' factors bring.
-use Rattle.std.proofs.Common.{[], ◌∷◌, length, sym, ◌∙◌, arith}
+use Rattle.std.proofs.Common.{◌≡◌, [], ◌∷◌, length, sym, ◌∙◌, arith}
 use Rattle.std.proofs.lemmas.List.{length-take-le}
+use Rattle.std.proofs.lemmas.List.Elements.{All-take, All-from_recursion}
+use Rattle.transyt_profile.specs.declared.platoon.Platoon.{Platoon}
 use Rattle.transyt_profile.specs.Profile.{folded}
 use Rattle.transyt_sweep.specs.Inflow.{read_by}
-use Rattle.transyt_sweep.proofs.GroupLaws.{are_as_long, few_taken, group_carried, some_taken}
+use Rattle.transyt_sweep.proofs.GroupLaws.{group_carried}
 use Rattle.transyt_sweep.proofs.feeds.Sendable.send.Goals as goal
 
 pub returns-clause-value : goal.returns-clause-value
@@ -32,14 +34,18 @@ slice_bounds-group-end c =
 
 pub invariant_of-group : goal.invariant_of-group
 invariant_of-group c =
-    let count = length c.args.self.now.slots.now in
     let sent = c.args.self.now in
+    let count = length sent.slots.now in
+    let platoons = c.platoon.result ∷ c.platoon-2.result ∷ c.platoon-3.result ∷ c.platoon-4.result ∷ [] in
+    let len = length-take-le count platoons sent.group.few in
+    let Long : Platoon → Type 0 = λ p. length p.leaving.now ≡ sent.inputs.now.step_count in
     record {
       steps = sent.inputs.now.some;
       most = sent.inputs.now.most;
-      some = some_taken count c.platoon.result c.platoon-2.result c.platoon-3.result c.platoon-4.result sent.group;
-      few = few_taken count c.platoon.result c.platoon-2.result c.platoon-3.result c.platoon-4.result sent.group;
-      same = are_as_long sent.inputs.now.step_count count c.platoon.result c.platoon-2.result c.platoon-3.result
-          c.platoon-4.result c.platoon.ensures.steps c.platoon-2.ensures.steps c.platoon-3.ensures.steps
-          c.platoon-4.ensures.steps;
+      some = omega (arith, sent.group, len);
+      few = omega (arith, sent.group, len);
+      same = All-take Long count platoons (All-from_recursion Long platoons (
+        c.platoon.ensures.steps,
+        (c.platoon-2.ensures.steps, (c.platoon-3.ensures.steps, (c.platoon-4.ensures.steps, tt))),
+      ));
     }

@@ -1,28 +1,24 @@
 -- The entry flow, the arrivals of the feeds, and both turns folded to one.
-use Rattle.std.proofs.Common.{◌≡◌, ℕ, ◌-◌, ◌^◌, ◌<◌, ◌≤◌, All, length, drop, arith, ap, sym, subst, ◌∙◌}
+use Rattle.std.proofs.Common.{◌≡◌, ℕ, ◌^◌, ◌<◌, ◌≤◌, All, length, arith, ap, sym, subst, ◌∙◌}
 use Rattle.std.proofs.lemmas.List.{with_items_is}
-use Rattle.std.proofs.lemmas.List.Elements.{All-take, All-drop}
 use Rattle.transyt_profile.specs.Profile.{folded, uniform}
 use Rattle.transyt_parts.specs.Parts.{LinkValue}
 use Rattle.transyt_net.specs.Parts.{Network, link_of, perstep}
-use Rattle.transyt_sweep.specs.Inflow.{AreFactors, read_by, with_feeds}
-use Rattle.transyt_sweep.proofs.InflowLaws.{all_small, started_room}
-use Rattle.transyt_sweep.proofs.SlotLaws.{are_put}
+use Rattle.transyt_sweep.specs.Inflow.{read_by, with_feeds}
+use Rattle.transyt_sweep.proofs.InflowLaws.{all_small, started_small}
 use Rattle.transyt_sweep.proofs.inputs.Inputs.fill_inflow.Goals as goal
 
--- the feeds have slots, and room
-pub add_all-requires-clause-slots : goal.add_all-requires-clause-slots
-add_all-requires-clause-slots c =
-    let n : ℕ = c.args.self.now.net.now.frame.step_count in
-    let own : ℕ = c.own_place-own.result in
-    All-take (AreFactors n) (c.min-end.result - own) (drop own c.args.kept.now)
-    (All-drop (AreFactors n) own c.args.kept.now c.requires.kept)
-
+-- the feeds have room
 pub add_all-requires-clause-turns : goal.add_all-requires-clause-turns
-add_all-requires-clause-turns c =
-    started_room c.args.self.now.step_count c.per_step-entry.result (length c.feeds_of.result.now)
-    c.start_turns.new.turns c.feeds_of.ensures.few (omega arith) c.per_step-entry.ensures.small
-    c.start_turns.ensures
+add_all-requires-clause-turns c = record {
+  len = omega arith;
+  small = λ j d h. omega (
+    arith,
+    c.feeds_of.ensures.few,
+    started_small c.args.self.now.step_count c.per_step-entry.result c.start_turns.new.turns c.per_step-entry.ensures.small
+        c.start_turns.ensures j d h,
+  );
+}
 
 -- all values of the two turns, folded, are small
 pub fold_into-requires-clause-fit : goal.fold_into-requires-clause-fit
@@ -53,12 +49,6 @@ invariant_of-rows c =
       queue_small = was.queue_small;
       departures_small = was.departures_small;
     }
-
-pub returns-clause-kept : goal.returns-clause-kept
-returns-clause-kept c =
-    let own : ℕ = c.own_place-own.result in
-    are_put c.args.self.now.net.now.frame.step_count own (c.min-end.result - own) c.args.kept.now
-    c.add_all.new.slots c.requires.kept c.add_all.ensures.slots
 
 -- all arrivals
 pub returns-clause-arrivals : goal.returns-clause-arrivals
