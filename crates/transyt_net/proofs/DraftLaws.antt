@@ -1,12 +1,14 @@
 -- A call of a draft has no fault exactly where the draft after it is sound.
-use Rattle.std.proofs.Common.{◌≡◌, ◌↔◌, ℕ, zero, suc, ◌<◌, ◌≤◌, true, List, []}
+use Rattle.std.proofs.Common.{◌≡◌, ◌↔◌, ℕ, ◌<◌, ◌≤◌, true, List, []}
 use Rattle.std.proofs.Common.{◌∷◌, ◌++◌, length, All, None, Some, refl, subst, arith}
 use Rattle.std.proofs.Common.{IsTrue, ◌-◌, slice_get, get_or, set, length-append}
 use Rattle.std.specs.List.{list_all}
 use Rattle.std.proofs.Math.Seq.{lt-length-set}
 use Rattle.std.proofs.lemmas.Bool.Decides.{nat_tests}
-use Rattle.std.proofs.lemmas.List.{map-append}
-use Rattle.std.proofs.lemmas.List.Elements.{All-head, All-tail, All-nil}
+use Rattle.std.proofs.lemmas.List.{map-append, get_or_push, length_push}
+use Rattle.std.proofs.lemmas.List.Sums.{list_all-from_AllPass}
+use Rattle.std.proofs.lemmas.Option.{slice_get-get_or}
+use Rattle.std.proofs.lemmas.List.Elements.{All-nil}
 use Rattle.std.proofs.lemmas.Grind.{get_or-set_at}
 use Rattle.transyt_parts.specs.declared.node.Stage.{Stage}
 use Rattle.transyt_parts.specs.declared.link.Feed.{Feed}
@@ -30,26 +32,12 @@ use Rattle.transyt_net.proofs.SoundLinks.{sound_link, sound_feed, sound_rule}
 
 -- a fact of each element holds for the last
 all_last : {A : Type 0} (P : A → Type 0) (xs : List A) (y : A) → All P (xs ++ y ∷ []) → P y
-all_last P [] y all = All-head P y [] all
-all_last P (x ∷ xs) y all = all_last P xs y (All-tail P x (xs ++ y ∷ []) all)
+all_last P xs y all = subst P (get_or_push xs y y (length xs) refl) (all (length xs) y (omega (arith, length_push xs y)))
 
 -- numbers in a range pass its test
 all_within_true : (low high : ℕ) (xs : List ℕ) → All (λ k. (low ≤ k) × (k ≤ high)) xs
     → list_all (within low high) xs ≡ true
-all_within_true low high [] all = refl
-all_within_true low high (x ∷ xs) all =
-    grind (
-      arith,
-      nat_tests,
-      All-head (λ k. (low ≤ k) × (k ≤ high)) x xs all,
-      all_within_true low high xs (All-tail (λ k. (low ≤ k) × (k ≤ high)) x xs all),
-    )
-
--- the element at a place
-stands : {A : Type 0} (xs : List A) (p : ℕ) (d : A) → p < length xs → slice_get xs p ≡ Some (get_or xs p d)
-stands [] p d h = absurd (omega arith)
-stands (x ∷ xs) zero d h = refl
-stands (x ∷ xs) (suc p) d h = stands xs p d (omega arith)
+all_within_true low high xs all = list_all-from_AllPass (within low high) xs (λ i d inside. let one = all i d inside in grind (arith, nat_tests))
 
 node_free : (net : Network) (number offset : ℕ) → IsSound (with_node net number offset)
     → node_fault net number offset ≡ None
@@ -77,7 +65,7 @@ stage_free net s some h =
     let nodes : All (IsNode steps) (set net.nodes p (add_stage s n)) = subst (All (IsNode steps)) put h.nodes in
     let at : get_or (set net.nodes p (add_stage s n)) p no_node ≡ add_stage s n =
     get_or-set_at net.nodes p p (add_stage s n) no_node refl inside in
-    let there : slice_get net.nodes p ≡ Some n = stands net.nodes p no_node inside in
+    let there : slice_get net.nodes p ≡ Some n = slice_get-get_or net.nodes p no_node inside in
     let good : IsNode steps (add_stage s n) = subst (IsNode steps) at (nodes p no_node (lt-length-set net.nodes p (add_stage s n) inside)) in
     let stage = all_last (IsStage steps) n.stages s good.stages in
     let longer = length-append n.stages (s ∷ []) in

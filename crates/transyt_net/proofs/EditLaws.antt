@@ -1,8 +1,7 @@
 -- The one element that an edit changes.
-use Rattle.std.proofs.Common.{◌≡◌, ℕ, ◌<◌, ◌≤◌, List, [], ◌∷◌, ◌++◌, length, take}
+use Rattle.std.proofs.Common.{◌≡◌, ℕ, ◌<◌, List, [], ◌∷◌, ◌++◌, length, take}
 use Rattle.std.proofs.Common.{get_or, set, Some, unwrap_or, refl, sym, ap, ◌∙◌, arith, All}
-use Rattle.std.proofs.Math.Seq.{take-length}
-use Rattle.std.proofs.lemmas.List.{set-append_left, take-append-le, length-set, get_or_append_left}
+use Rattle.std.proofs.lemmas.List.{set-append_left, take_at, length-set, get_or_append_left}
 use Rattle.std.proofs.lemmas.List.Elements.{All-head, All-tail}
 use Rattle.std.proofs.lemmas.Bool.Decides.{nat_tests}
 use Rattle.transyt_net.specs.Valid.{numbered, on_numbered, on_place}
@@ -41,12 +40,7 @@ pub changed_front : (items rest : List Stage) (p change : ℕ) (d : Stage) → p
     ≡ on_place (change_to change) items p
 changed_front items rest p change d h =
     let new : Stage = change_to change (get_or items p d) in
-    let len = length-set items p new in
-    let fits : length items ≤ length (set items p new) = omega arith in
-    let whole : take (length items) (set items p new) ≡ set items p new =
-    ap (λ n. take n (set items p new)) (sym len) ∙ take-length (set items p new) in
     ap (λ s. take (length items) (set (items ++ rest) p (change_to change s))) (get_or_append_left items rest d p h)
     ∙ ap (take (length items)) (set-append_left items rest p new h)
-    ∙ take-append-le (length items) (set items p new) rest fits
-    ∙ whole
+    ∙ take_at (set items p new) rest (length items) (length-set items p new)
     ∙ sym (on_place_here (change_to change) items p d h)

@@ -2,7 +2,6 @@ pub mod AfterLaws
 pub mod AllowedLaws
 pub mod ApplyLaws
 pub mod BackLaws
-pub mod CopyLaws
 pub mod DraftLaws
 pub mod EditLaws
 pub mod FlowLaws

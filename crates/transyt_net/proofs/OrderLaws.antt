@@ -4,6 +4,7 @@ use Rattle.std.proofs.Common.{get_or, Some, None, if◌then◌else◌, lt-ltb, a
 use Rattle.std.specs.List.{position_or_len}
 use Rattle.std.proofs.lemmas.Bool.Decides.{nat_tests}
 use Rattle.std.proofs.lemmas.List.Folds.{list_any_at}
+use Rattle.std.proofs.lemmas.List.Sums.{position_or_len_is}
 use Rattle.transyt_net.specs.Valid.{all_differ, place_of}
 
 -- of numbers that differ one that stands later is not one that stands earlier
@@ -18,12 +19,7 @@ earlier_differs (x ∷ xs) (suc i) (suc k) differ earlier inside = grind (arith,
 pub place_alone : (ns : List ℕ) (k p : ℕ) → all_differ ns ≡ true → p < length ns → get_or ns p 0 ≡ k
     → place_of ns k ≡ Some p
 place_alone ns k p differ inside here =
-    let at = before_alone ns k p differ inside here in
+    let at : position_or_len (nat_eq k) ns ≡ p =
+    position_or_len_is (nat_eq k) ns p 0 (omega arith) (λ j earlier. grind (arith, nat_tests, earlier_differs ns p j differ earlier inside))
+    (λ _. grind (arith, nat_tests)) in
     ap (λ n. if nat_lt n (length ns) then Some n else None) at ∙ ap (λ b. if b then Some p else None) (lt-ltb p (length ns) inside)
-  where
-    before_alone : (ns : List ℕ) (k p : ℕ) → all_differ ns ≡ true → p < length ns → get_or ns p 0 ≡ k
-        → position_or_len (nat_eq k) ns ≡ p
-    before_alone [] k p differ inside here = absurd (omega arith)
-    before_alone (x ∷ xs) k zero differ inside here = grind (arith, nat_tests)
-    before_alone (x ∷ xs) k (suc p) differ inside here =
-        grind (arith, nat_tests, earlier_differs (x ∷ xs) (suc p) zero differ, before_alone xs k p)

@@ -2,8 +2,7 @@
 use Rattle.std.proofs.lemmas.List.Elements.{All-nil, All-cons, All-head, All-tail}
 use Rattle.std.proofs.Common.{IfSome, All, slice_get, ◌≡◌, ℕ, suc, zero, ◌<◌, Bool, true, false, not, cond, ◌||◌, List}
 use Rattle.std.proofs.Common.{[], ◌∷◌, ◌++◌, length, map, get_or, set, Option, Some, None, refl, sym, ap, subst, ◌∙◌}
-use Rattle.std.proofs.Common.{arith, nat_eq, nat_lt, ◌&&◌, is_some, if◌then◌else◌}
-use Rattle.std.specs.List.{position_or_len}
+use Rattle.std.proofs.Common.{arith, nat_eq, ◌&&◌, is_some}
 use Rattle.std.specs.List.{list_any}
 use Rattle.std.proofs.lemmas.Bool.{or_left, eqb-true}
 use Rattle.std.proofs.lemmas.Bool.Decides.{nat_tests}
@@ -31,16 +30,8 @@ all_differ_push (x ∷ xs) y = grind (arith, nat_tests, list_any-append (nat_eq 
 
 -- a search finds a number exactly where it is among these
 pub place_found : (xs : List ℕ) (k : ℕ) → is_some (place_of xs k) ≡ is_among xs k
-place_found xs k =
-    ap (λ b. is_some (if b then Some (position_or_len (nat_eq k) xs) else None)) (by xs) ∙ some_if (is_among xs k) _
-  where
-    some_if : (b : Bool) (n : ℕ) → is_some (if b then Some n else None) ≡ b
-    some_if true n = refl
-    some_if false n = refl
-
-    by : (xs : List ℕ) → nat_lt (position_or_len (nat_eq k) xs) (length xs) ≡ is_among xs k
-    by [] = refl
-    by (x ∷ xs) = grind (arith, nat_tests, by xs)
+place_found [] k = refl
+place_found (x ∷ xs) k = grind (arith, nat_tests, place_found xs k)
 
 -- the place that is found is the place of the number
 pub place_is : {A : Type 0} (key : A → ℕ) (xs : List A) (k p : ℕ) → place_of (map key xs) k ≡ Some p

@@ -1,10 +1,10 @@
 -- The net holds the nodes and links of the other one, which is valid, and keeps its numbers.
-use Rattle.std.proofs.Common.{rules, ◌≡◌, List, ◌++◌, take, drop, length, sym, ap, ◌∙◌, subst, map}
-use Rattle.transyt_net.specs.Parts.{Network, network_of, NodeValue, LinkValue, SameShape, shape}
+use Rattle.std.proofs.Common.{rules, ◌≡◌, ◌++◌, take, drop, length, sym, ap, ◌∙◌, subst, map}
+use Rattle.std.proofs.lemmas.List.{take_at}
+use Rattle.transyt_net.specs.Parts.{Network, network_of, SameShape, shape}
 use Rattle.transyt_parts.specs.Parts.{total_flow}
 use Rattle.transyt_net.specs.Valid.{node_numbers, link_numbers, IsValid}
 use Rattle.transyt_net.proofs.ShapeLaws.{same_node_numbers, same_link_numbers}
-use Rattle.transyt_net.proofs.CopyLaws.{written_back}
 use Rattle.transyt_net.proofs.net.Net.take_numbers.Goals as goal
 
 -- the network is that of the other
@@ -22,14 +22,16 @@ whole c =
     let b : Network =
     network_of c.from.inside.frame c.from.inside.nodes.items c.from.inside.links.items c.from.inside.plan in
     let same : SameShape a b = ap shape c.self.view_is ∙ c.requires ∙ sym (ap shape c.from.view_is) in
-    let front : List NodeValue = c.take_nodes.new.nodes in
-    let nodes_now : List NodeValue = take c.self.inside.nodes.len (front ++ drop (length front) a.nodes) in
-    let nodes : nodes_now ≡ b.nodes =
-    written_back front a.nodes c.self.inside.nodes.len (search rules) (search rules) ∙ search rules in
-    let first : List LinkValue = c.take_links.new.links in
-    let links_now : List LinkValue = take c.self.inside.links.len (first ++ drop (length first) a.links) in
-    let links : links_now ≡ b.links =
-    written_back first a.links c.self.inside.links.len (search rules) (search rules) ∙ search rules in
+    let front = c.take_nodes.new.nodes in
+    let node_count : c.self.inside.nodes.len ≡ length a.nodes = search rules in
+    let front_len : length front ≡ length a.nodes = search rules in
+    let nodes : take c.self.inside.nodes.len (front ++ drop (length front) a.nodes) ≡ b.nodes =
+    take_at front _ c.self.inside.nodes.len (front_len ∙ sym node_count) ∙ search rules in
+    let first = c.take_links.new.links in
+    let link_count : c.self.inside.links.len ≡ length a.links = search rules in
+    let first_len : length first ≡ length a.links = search rules in
+    let links : take c.self.inside.links.len (first ++ drop (length first) a.links) ≡ b.links =
+    take_at first _ c.self.inside.links.len (first_len ∙ sym link_count) ∙ search rules in
     let frames : a.frame ≡ b.frame = ap (λ (n : Network). n.frame) same in
     let plans : a.plan ≡ b.plan = ap (λ (n : Network). n.plan) same in
     (λ j. network_of (frames j) (nodes j) (links j) (plans j))
