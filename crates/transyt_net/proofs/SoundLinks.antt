@@ -1,17 +1,13 @@
 -- A draft stays sound with a new link, feed and give-way rule.
-use Rattle.std.proofs.Common.{◌<◌, [], ◌≡◌, ℕ, ◌≤◌, true, false, not, ◌&&◌, ◌||◌, ◌∷◌, ◌++◌, length, None, refl}
-use Rattle.std.proofs.Common.{sym, ap, subst, ◌∙◌, arith, nat_eq, nat_le, length-append, All, IfSome}
-use Rattle.std.proofs.Common.{Bool, Some, if◌then◌else◌}
-use Rattle.std.specs.List.{list_all}
-use Rattle.std.proofs.lemmas.Bool.{and_from, and_parts, or_parts, leb-false, not-false}
+use Rattle.std.proofs.Common.{◌<◌, [], ◌≡◌, ℕ, ◌≤◌, true, false, ◌∷◌, ◌++◌, length, None, refl}
+use Rattle.std.proofs.Common.{sym, ap, subst, ◌∙◌, arith, nat_eq, length-append, All, IfSome}
 use Rattle.std.proofs.lemmas.List.{map-append}
 use Rattle.std.proofs.lemmas.List.Elements.{All-push, All-weaker, All-nil}
 use Rattle.transyt_parts.specs.declared.link.Feed.{Feed}
 use Rattle.transyt_parts.specs.declared.link.GiveWay.{GiveWay}
-use Rattle.transyt_net.specs.declared.draft.DraftFault.TheVariants.{Twice, Unknown, Range, TooMany}
 use Rattle.transyt_net.specs.Parts.{Network, LinkValue}
 use Rattle.transyt_net.specs.Valid.{is_among, node_numbers, link_numbers, stages_at, IsSound, IsLink, IsFeed, IsRule}
-use Rattle.transyt_net.specs.Valid.{all_differ, within, link_number, is_fed, feeders, link_in_range, AreWeights}
+use Rattle.transyt_net.specs.Valid.{all_differ, link_number, is_fed, feeders, link_in_range, AreWeights}
 use Rattle.transyt_net.specs.Faults.{link_fault, with_link}
 use Rattle.transyt_net.specs.Faults.{feed_fault, with_feed, rule_fault, with_rule}
 use Rattle.transyt_parts.specs.Made.{add_feed, set_rule}
@@ -20,13 +16,6 @@ use Rattle.transyt_net.proofs.PlaceLaws.{among_more, all_differ_push}
 use Rattle.transyt_net.proofs.PlaceLaws.{list_any_map}
 use Rattle.transyt_net.proofs.WriteLaws.{all_in_range}
 use Rattle.transyt_net.proofs.WriteLaws.{link_with_more_numbers, links_written}
-
--- a new link without a fault passes each test
-passes : (twice known ranged full : Bool)
-    → (if twice then Some Twice else if not known then Some Unknown else if not ranged then Some Range
-    else if full then Some TooMany else None) ≡ None
-    → (twice ≡ false) × (known ≡ true) × (ranged ≡ true) × (full ≡ false)
-passes twice known ranged full none = grind (arith, nat_tests)
 
 -- the ranges of its numbers
 range_facts : (steps : ℕ) (l : LinkValue) → link_in_range steps l ≡ true
@@ -43,22 +32,17 @@ sound_link net l h count no_feeds no_rule none =
     let after = link_numbers (net.links ++ l ∷ []) in
     let longer = length-append net.links (l ∷ []) in
     let keys : after ≡ numbers ++ l.number ∷ [] = map-append link_number net.links (l ∷ []) in
-    let known = is_among (node_numbers net.nodes) l.node in
-    let runs = list_all (within 1 (stages_at net.nodes l.node)) l.stages in
-    let facts = passes (is_among numbers l.number || not (all_differ l.stages)) (known && runs) (link_in_range steps l)
-    (nat_le 1000 (length net.links)) none in
-    let apart = or_parts (is_among numbers l.number) (not (all_differ l.stages)) facts.0 in
-    let names = and_parts known runs facts.1 in
-    let stages_differ = not-false (all_differ l.stages) apart.1 in
-    let differ : all_differ after ≡ true =
-    ap all_differ keys ∙ all_differ_push numbers l.number ∙ and_from _ _ h.links_differ (ap not apart.0) in
-    let many : length (net.links ++ l ∷ []) ≤ 1000 = omega (arith, leb-false 1000 (length net.links) facts.3) in
-    let staged = all_in_range 1 (stages_at net.nodes l.node) l.stages names.1 in
+    let apart = all_differ_push numbers l.number in
+    let differ : all_differ after ≡ true = grind (arith, nat_tests) in
+    let many : length (net.links ++ l ∷ []) ≤ 1000 = grind (arith, nat_tests) in
+    let stages_differ : all_differ l.stages ≡ true = grind (arith, nat_tests) in
+    let known : is_among (node_numbers net.nodes) l.node ≡ true = grind (arith, nat_tests) in
+    let staged = all_in_range 1 (stages_at net.nodes l.node) l.stages (grind (arith, nat_tests)) in
     let fed : All (IsFeed after) l.feeds = subst (All (IsFeed after)) (sym no_feeds) (All-nil (IsFeed after)) in
     let fed_differ : all_differ (feeders l.feeds) ≡ true = rw no_feeds refl in
     let fed_few : length l.feeds ≤ 8 = rw no_feeds (omega arith) in
     let rule : IfSome l.gives_way (IsRule after) = rw no_rule tt in
-    let range = range_facts steps l facts.2 in
+    let range = range_facts steps l (grind (arith, nat_tests)) in
     let new : IsLink steps net.nodes after l = grind arith in
     let links : All (IsLink steps net.nodes after) (net.links ++ l ∷ []) =
     All-push (IsLink steps net.nodes after) net.links l

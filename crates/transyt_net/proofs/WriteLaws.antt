@@ -1,6 +1,6 @@
 -- Writes to nodes and links, and more of them, that keep a network sound.
 use Rattle.std.proofs.Common.{[], ◌≡◌, ℕ, suc, zero, ◌≤◌, Bool, true, false, List, ◌∷◌, ◌++◌, Option}
-use Rattle.std.proofs.Common.{Some, None, refl, sym, ap, ◌∙◌, subst, arith, length-append, All, IfSome}
+use Rattle.std.proofs.Common.{Some, None, refl, ap, ◌∙◌, arith, length-append, All, IfSome}
 use Rattle.std.proofs.Common.{if◌then◌else◌}
 use Rattle.std.specs.List.{list_all}
 use Rattle.std.proofs.lemmas.Bool.Decides.{nat_tests}
@@ -93,19 +93,11 @@ links_written net f same link h keeps =
     let steps = net.frame.step_count in
     let after = on_numbered link_number f net.links link in
     let numbers : link_numbers after ≡ link_numbers net.links = keys_kept link_number f same net.links link in
-    record {
-      frame = h.frame;
-      node_count = h.node_count;
-      nodes_differ = h.nodes_differ;
-      nodes = h.nodes;
-      link_count = omega (arith, h.link_count, length_kept link_number f net.links link);
-      links_differ = ap all_differ numbers ∙ h.links_differ;
-      links =
-          subst (λ ks. All (IsLink steps net.nodes ks) after) (sym numbers)
-          (all_on_numbered (IsLink steps net.nodes (link_numbers net.links)) link_number f net.links link
-          keeps h.links);
-      plan = h.plan;
-    }
+    let count = length_kept link_number f net.links link in
+    let differ : all_differ (link_numbers after) ≡ true = ap all_differ numbers ∙ h.links_differ in
+    let links : All (IsLink steps net.nodes (link_numbers after)) after = rw numbers
+    (all_on_numbered (IsLink steps net.nodes (link_numbers net.links)) link_number f net.links link keeps h.links) in
+    grind (arith, nat_tests)
 
 -- a network whose nodes were written, each keeping its shape
 pub nodes_written : (net : Network) (f : NodeValue → NodeValue) (same : (n : NodeValue) → bare_node (f n) ≡ bare_node n)
@@ -118,17 +110,11 @@ nodes_written net f same node h keeps =
     let after = on_numbered node_number f net.nodes node in
     let bare = map_kept node_number f bare_node same net.nodes node in
     let numbers : node_numbers after ≡ node_numbers net.nodes = same_numbers after net.nodes bare in
-    record {
-      frame = h.frame;
-      node_count = omega (arith, h.node_count, length_kept node_number f net.nodes node);
-      nodes_differ = ap all_differ numbers ∙ h.nodes_differ;
-      nodes = all_on_numbered (IsNode steps) node_number f net.nodes node keeps h.nodes;
-      link_count = h.link_count;
-      links_differ = h.links_differ;
-      links = All-weaker _ (IsLink steps after (link_numbers net.links))
-          (λ l. link_with_more_nodes steps net.nodes after (link_numbers net.links)
-          (λ k a. ap (λ ks. is_among ks k) numbers ∙ a)
-          (λ k. omega (arith, same_stages_at after net.nodes k bare)) l)
-          net.links h.links;
-      plan = h.plan;
-    }
+    let count = length_kept node_number f net.nodes node in
+    let differ : all_differ (node_numbers after) ≡ true = ap all_differ numbers ∙ h.nodes_differ in
+    let nodes : All (IsNode steps) after = all_on_numbered (IsNode steps) node_number f net.nodes node keeps h.nodes in
+    let links : All (IsLink steps after (link_numbers net.links)) net.links =
+    All-weaker _ (IsLink steps after (link_numbers net.links))
+    (λ l. link_with_more_nodes steps net.nodes after (link_numbers net.links) (λ k a. ap (λ ks. is_among ks k) numbers ∙ a)
+    (λ k. omega (arith, same_stages_at after net.nodes k bare)) l) net.links h.links in
+    grind (arith, nat_tests)

@@ -7,10 +7,11 @@ use Rattle.transyt_parts.specs.Made.{new_feed, add_feed}
 use Rattle.transyt_net.proofs.PlaceLaws.{IsPut, put_there, put_again, place_inside}
 use Rattle.transyt_net.proofs.SoundLinks.{sound_feed}
 use Rattle.transyt_net.proofs.TotalLaws.{total_set, link_set, links_put}
+use Rattle.transyt_net.proofs.draft.Draft.feed.Goals.{In_ok-add_feed}
 use Rattle.transyt_net.proofs.draft.Draft.feed.Goals as goal
 
 -- the link is written at the place of its number
-put : (c : goal.After-self-3-1) → IsPut link_number (add_feed (new_feed c.args.feeder c.args.flow c.args.cruise))
+put : (c : In_ok-add_feed) → IsPut link_number (add_feed (new_feed c.args.feeder c.args.flow c.args.cruise))
     c.self.inside.links.items c.args.link c.in-Some-place.place c.index_mut-owner.result.now c.add_feed.new.link
 put c =
     put_there link_number (add_feed (new_feed c.args.feeder c.args.flow c.args.cruise)) (λ l. refl)
@@ -20,15 +21,14 @@ put c =
 -- the network with the feed
 pub returns-clause-ok : goal.returns-clause-ok
 returns-clause-ok c =
-    links_put _ _ _ c.args.link (add_feed (new_feed c.args.feeder c.args.flow c.args.cruise)) c.self.view_is (put c).put
+    links_put _ _ _ c.args.link (add_feed (new_feed c.args.feeder c.args.flow c.args.cruise)) c.self.view_is
+    (put (goal.at.returns-clause-ok c).In_ok-add_feed).put
 
 -- the flows of the link are as small as those of a sound draft
 pub all_flow-requires : goal.all_flow-requires
 all_flow-requires c =
     let feed = new_feed c.args.feeder c.args.flow c.args.cruise in
-    let is = put_there link_number (add_feed feed) (λ l. refl) c.self.inside.links.items c.args.link
-    c.in-Some-place.place c.index_mut-owner.result.now c.add_feed.new.link (search rules)
-    c.index_mut-owner.ensures.value c.in_ok-add_feed.ensures.ok in
+    let is = put (goal.at.all_flow-requires c).In_ok-add_feed in
     let sound = subst IsSound (sym (links_put _ _ _ c.args.link (add_feed feed) c.self.view_is is.put))
     (sound_feed c.args.self.now c.args.link feed (subst IsSound c.self.view_is c.self.invariant.0) (search rules)) in
     let is_link = link_set _ c.in-Some-place.place c.add_feed.new.link sound
@@ -38,11 +38,12 @@ all_flow-requires c =
 -- the new feed keeps the draft sound
 pub invariant_of-self-2 : goal.invariant_of-self-2
 invariant_of-self-2 c =
-    let feed = new_feed c.args.feeder c.args.flow c.args.cruise in (
-      subst IsSound (sym (links_put _ _ _ c.args.link (add_feed feed) c.self.view_is (put c).put))
+    let feed = new_feed c.args.feeder c.args.flow c.args.cruise in
+    let is = put (goal.at.invariant_of-self-2 c).In_ok-add_feed in (
+      subst IsSound (sym (links_put _ _ _ c.args.link (add_feed feed) c.self.view_is is.put))
           (sound_feed c.args.self.now c.args.link feed (subst IsSound c.self.view_is c.self.invariant.0) (search rules)),
       c.self.invariant.1,
-      c.self.invariant.2 ∙ (put c).keys,
+      c.self.invariant.2 ∙ is.keys,
       total_set c.self.inside.totals.items c.self.inside.links.items c.in-Some-place.place c.all_flow.result
           c.add_feed.new.link c.self.invariant.3 c.all_flow.ensures.value,
     )

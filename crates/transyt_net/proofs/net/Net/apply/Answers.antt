@@ -1,8 +1,8 @@
 -- The network after an allowed edit is valid and of the same shape, and the inverse leads back.
-use Rattle.std.proofs.Common.{rules, ◌≡◌, None, sym, ap, ◌∙◌, subst}
+use Rattle.std.proofs.Common.{rules, sym, ap, ◌∙◌, subst}
 use Rattle.transyt_net.specs.Parts.{shape}
 use Rattle.transyt_net.specs.Valid.{IsValid}
-use Rattle.transyt_net.specs.Edits.{with_edit, inverse}
+use Rattle.transyt_net.specs.Edits.{with_edit}
 use Rattle.transyt_net.specs.EditFaults.{edit_fault}
 use Rattle.transyt_net.proofs.ApplyLaws.{valid_edit}
 use Rattle.transyt_net.proofs.BackLaws.{back_allowed}
