@@ -1,5 +1,5 @@
 -- The rows while the links are worked out one after another.
-use Rattle.std.proofs.Common.{◌≡◌, ℕ, ◌+◌, ◌<◌, ◌≤◌, true, false, cond, List, length, ap, sym, ◌∙◌, arith}
+use Rattle.std.proofs.Common.{rules, ◌≡◌, ℕ, ◌+◌, ◌<◌, ◌≤◌, true, false, cond, List, length, ap, sym, ◌∙◌, arith}
 use Rattle.std.proofs.Common.{◌⊎◌, inl, inr, if◌then◌else◌}
 use Rattle.std.proofs.lemmas.Bool.{cases_eq}
 use Rattle.std.proofs.lemmas.Bool.Decides.{nat_tests}
@@ -30,11 +30,7 @@ module _ (net : Network) (f g : ℕ → ℕ → List ℕ) (s l : ℕ) (rows : Ro
   pub mixed_put : AreRows rows → (x : List ℕ) → s ≤ net.frame.sweeps → l < length net.links → x ≡ f s l
       → AreMixed net f g s (l + 1) (with_out rows s l x)
   mixed_put kept x swept inside made = record {
-    fits = record {
-      step_count = mixed.fits.step_count;
-      sweeps = mixed.fits.sweeps;
-      link_count = mixed.fits.link_count;
-    };
+    fits = search rules;
     outs = λ t k within there. by t k within there (cases_eq t s) (cases_eq k l);
   }
     where
@@ -51,22 +47,15 @@ module _ (net : Network) (f g : ℕ → ℕ → List ℕ) (s l : ℕ) (rows : Ro
       by : (t k : ℕ) → t ≤ net.frame.sweeps → k < length net.links → (t ≡ s) ⊎ (t ≡ s → ⊥) → (k ≡ l) ⊎ (k ≡ l → ⊥)
           → out_at (with_out rows s l x) t k ≡ (if is_before t k s (l + 1) then f t k else g t k)
       by t k within there (inl sweep) (inl link) =
-          (λ j. out_at (with_out rows s l x) (sweep j) (link j))
-          ∙ out_here rows kept s l (omega (arith, mixed.fits.sweeps)) inside_in x
-          ∙ made
-          ∙ sym (λ j. f (sweep j) (link j))
-          ∙ sym (ap (λ b. cond b (f t k) (g t k)) ((λ j. is_before (sweep j) (link j) s (l + 1)) ∙ before_self s l))
+          rw (sweep, link) (out_here rows kept s l (omega (arith, mixed.fits.sweeps)) inside_in x ∙ made
+          ∙ sym (ap (λ b. cond b (f s l) (g s l)) (before_self s l)))
       by t k within there (inl sweep) (inr other) = elsewhere t k within there (λ _ e. other e)
       by t k within there (inr other) _ = elsewhere t k within there (λ e _. other e)
 
   -- with the rest of the last sweep written, the departures are the same
   pub mixed_shown : (m : ℕ) (c : CellValue) → AreMixed net f g s l (with_rest rows m c)
   mixed_shown m c = record {
-    fits = record {
-      step_count = mixed.fits.step_count;
-      sweeps = mixed.fits.sweeps;
-      link_count = length-set rows.figures m c.figures ∙ mixed.fits.link_count;
-    };
+    fits = search (rules, length-set);
     outs = λ t k within there. out_shown rows m c t k ∙ mixed.outs t k within there;
   }
 

@@ -2,7 +2,6 @@ pub mod SweepLaws
 pub mod FeederLaws
 pub mod InflowLaws
 pub mod SendingLaws
-pub mod SlotLaws
 pub mod GroupLaws
 pub mod IndexLaws
 pub mod ReadLaws

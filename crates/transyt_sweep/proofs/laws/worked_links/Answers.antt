@@ -23,14 +23,10 @@ come_out = refl
 abbrev kind : ℕ → List (List (List ℕ)) → List (List ℕ)
 kind k rows = get_or rows k []
 
-pub returns-clause-arrivals : goal.returns-clause-arrivals
-returns-clause-arrivals c = ap (kind 0) come_out
-
-pub returns-clause-go : goal.returns-clause-go
-returns-clause-go c = ap (kind 1) come_out
-
-pub returns-clause-queue : goal.returns-clause-queue
-returns-clause-queue c = ap (kind 2) come_out
-
-pub returns-clause-out : goal.returns-clause-out
-returns-clause-out c = ap (kind 3) come_out
+pub returns : goal.returns
+returns c = record {
+  arrivals = ap (kind 0) come_out;
+  go = ap (kind 1) come_out;
+  queue = ap (kind 2) come_out;
+  out = ap (kind 3) come_out;
+}

@@ -13,16 +13,7 @@ pub invariant_of-inputs : goal.invariant_of-inputs
 invariant_of-inputs g c =
     let steps = ap (λ (f : Frame). f.step_count) c.frame.ensures.value in
     let limits = c.frame.ensures.valid.sound.frame.step_count in
-    record {
-      link_within = c.requires.link;
-      sweep_within = c.requires.last;
-      steps = steps;
-      some = omega (arith, limits, steps);
-      most = omega (arith, limits, steps);
-      rows_steps = c.requires.fits.step_count ∙ sym steps;
-      rows_sweeps = c.requires.fits.sweeps;
-      rows_links = c.requires.fits.link_count;
-    }
+    grind (arith, c.requires.fits)
 
 -- the room has values for the steps, and the factors are right for them
 pub fill_inflow-requires-clause-kept : goal.fill_inflow-requires-clause-kept

@@ -3,14 +3,17 @@ use Rattle.std.proofs.Common.{◌≡◌, ℕ, ◌<◌, List, All, ap, length, sy
 use Rattle.transyt_profile.specs.Profile.{folded}
 use Rattle.transyt_net.specs.Parts.{Network}
 use Rattle.transyt_sweep.specs.Inflow.{HaveRoom, IsGroup, read_by, with_carried, with_feeds}
-use Rattle.transyt_sweep.proofs.SlotLaws.{sendable}
 use Rattle.transyt_sweep.proofs.SendingLaws.{with_served}
 use Rattle.transyt_sweep.proofs.feeds.Feeds.add_together.Goals as goal
 
 pub invariant_of-sendable : goal.invariant_of-sendable
 invariant_of-sendable c = record {
   group = subst IsGroup (sym c.renew.ensures.served.same) c.requires.group;
-  are = sendable c.args.self.now.inputs.now c.args.self.now.list.now c.renew.new.slots c.renew.ensures.served;
+  are = λ i d below.
+      let one = c.renew.ensures.served.each i d (omega (arith, below, c.renew.ensures.served.same)) in record {
+        are = rw c.args.self.now.inputs.now.steps one.are;
+        feeder = omega (arith, one.below, c.args.self.now.inputs.now.rows_links);
+      };
 }
 
 pub send-requires-clause-turns : goal.send-requires-clause-turns

@@ -2,7 +2,7 @@
 use Rattle.std.proofs.Common.{arith}
 use Rattle.std.proofs.lemmas.List.Elements.{All-set}
 use Rattle.transyt_sweep.specs.Inflow.{AreFactors}
-use Rattle.transyt_sweep.proofs.SlotLaws.{served_more}
+use Rattle.std.proofs.lemmas.Grind.{elements}
 use Rattle.transyt_sweep.proofs.feeds.Feeds.renew.Goals as goal
 
 pub slots-preserved : goal.slots-preserved
@@ -11,7 +11,5 @@ slots-preserved c =
     record {
       are = All-set (AreFactors c.args.self.now.inputs.now.net.now.frame.step_count) c.slots.slots c.slots.i c.renew.new.slot served.are
           c.slots.invariant.are;
-      each = λ k d. served_more c.args.self.now.inputs.now.net.now c.args.self.now.list.now c.slots.slots c.slots.i c.renew.new.slot d
-          (omega (arith, c.slots-test.true, c.slots.auto.slots, c.requires.len)) served
-          (λ m. c.slots.invariant.each m d) k;
+      each = λ k d below. grind (arith, elements, c.slots.invariant.each k d);
     }

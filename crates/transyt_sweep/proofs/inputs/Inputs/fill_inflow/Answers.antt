@@ -1,5 +1,6 @@
 -- The entry flow, the arrivals of the feeds, and both turns folded to one.
-use Rattle.std.proofs.Common.{◌≡◌, ℕ, ◌^◌, ◌<◌, ◌≤◌, All, length, arith, ap, sym, subst, ◌∙◌}
+use Rattle.std.proofs.Common.{◌≡◌, ℕ, ◌^◌, ◌<◌, All, length, arith, ap, ◌∙◌}
+use Rattle.std.specs.Vec.{with_items}
 use Rattle.std.proofs.lemmas.List.{with_items_is}
 use Rattle.transyt_profile.specs.Profile.{folded, uniform}
 use Rattle.transyt_parts.specs.Parts.{LinkValue}
@@ -33,22 +34,13 @@ invariant_of-rows c =
     let was = c.args.rows.now in
     let is = with_items_is was.arrivals c.fold_into.new.out (c.fold_into.auto.out ∙ c.deref_mut.ensures.len) in
     let same = ap length is ∙ c.fold_into.auto.out ∙ ap length c.deref_mut.ensures.value in
-    record {
-      some = subst (λ k. 0 < k) (sym same) was.some;
-      most = subst (λ k. k ≤ 120) (sym same) was.most;
-      go_len = was.go_len ∙ sym same;
-      cut_len = was.cut_len ∙ sym same;
-      queue_len = was.queue_len ∙ sym same;
-      departures_len = was.departures_len ∙ sym same;
-      arrivals_small = subst (All (λ v. v < 2 ^ 48)) (sym (is ∙ c.fold_into.ensures))
-          (all_small c.args.self.now.step_count (length c.deref_mut.result.now) c.per_step-entry.result
-          (length c.feeds_of.result.now) c.start_turns.new.turns c.add_all.new.turns
-          c.per_step-entry.ensures.small c.start_turns.ensures c.feeds_of.ensures.few c.add_all.ensures.grows
-          (ap length c.deref_mut.ensures.value ∙ c.requires.steps));
-      go_small = was.go_small;
-      queue_small = was.queue_small;
-      departures_small = was.departures_small;
-    }
+    let small : All (λ v. v < 2 ^ 48) (with_items was.arrivals c.fold_into.new.out).items =
+    rw (is ∙ c.fold_into.ensures)
+    (all_small c.args.self.now.step_count (length c.deref_mut.result.now) c.per_step-entry.result
+    (length c.feeds_of.result.now) c.start_turns.new.turns c.add_all.new.turns
+    c.per_step-entry.ensures.small c.start_turns.ensures c.feeds_of.ensures.few c.add_all.ensures.grows
+    (ap length c.deref_mut.ensures.value ∙ c.requires.steps)) in
+    grind (arith, same)
 
 -- all arrivals
 pub returns-clause-arrivals : goal.returns-clause-arrivals
