@@ -5,9 +5,8 @@ use Rattle.transyt_parts.specs.Parts.{NodeValue}
 use Rattle.transyt_net.specs.Parts.{Network}
 use Rattle.transyt_equisat.specs.declared.fraction.Fraction.{Fraction}
 use Rattle.transyt_equisat.specs.Degrees.{is_above, nothing, IsSame}
-use Rattle.transyt_equisat.specs.Balance.{is_same, balance_at, greens_at, least_greens, share_at, need_at, first_green}
-use Rattle.transyt_equisat.specs.Balance.{reaches}
-use Rattle.transyt_equisat.proofs.SameLaws.{same_above, same_below}
+use Rattle.transyt_equisat.specs.Balance.{is_same, balance_at, greens_at, least_greens, share_at, need_at, first_green, reaches}
+use Rattle.transyt_equisat.proofs.FractionLaws.{same_above, same_below}
 
 -- whether numbers are equal, by whether one is above the other
 pub equal_by : (a b : ℕ) → nat_eq a b ≡ (not (nat_lt b a) && not (nat_lt a b))

@@ -10,11 +10,11 @@ use Rattle.transyt_net.specs.Parts.{Network, node_of, no_node}
 use Rattle.transyt_net.specs.Valid.{IsValid}
 use Rattle.transyt_equisat.specs.declared.fraction.Fraction.{Fraction}
 use Rattle.transyt_equisat.specs.Degrees.{is_above}
-use Rattle.transyt_equisat.specs.Sharing.{no_demand, asked_of, IsAsked}
+use Rattle.transyt_equisat.specs.Sharing.{no_demand, demand_in, asked_of, IsAsked}
 use Rattle.transyt_equisat.specs.Peaks.{greens_of, intergreens}
-use Rattle.transyt_equisat.specs.Balance.{first_green, least_greens, greens_at}
+use Rattle.transyt_equisat.specs.Balance.{least_greens, greens_at}
 use Rattle.transyt_equisat.proofs.SettingLaws.{IsSetting, setting_of}
-use Rattle.transyt_equisat.proofs.PeakLaws.{demand_count}
+use Rattle.transyt_equisat.proofs.AskedLaws.{first_count}
 use Rattle.transyt_equisat.proofs.FilledLaws.{demand_live}
 use Rattle.transyt_equisat.proofs.SharingLaws.{sum_pointwise}
 
@@ -36,7 +36,7 @@ pub asked_holds : (net : Network) (p : ℕ) → IsValid net → p < length net.n
 asked_holds net p valid inside =
     let n : NodeValue = node_of net p in
     let setting = setting_of net p valid inside in
-    let count = demand_count net n.number (length n.stages) in
+    let count = length-map-range_with_len (λ k. demand_in net n.number (k + 1)) 0 (length n.stages) in
     record {
       short = setting.steps.1;
       few = (omega (arith, setting.stages.0), setting.stages.1);
@@ -49,6 +49,4 @@ asked_holds net p valid inside =
 
 -- a green for each stage
 pub greens_count : (net : Network) (n : NodeValue) (v : Fraction) → length (greens_at net n v) ≡ length n.stages
-greens_count net n v =
-    length-set (least_greens net n v) 0 _
-    ∙ length-map-range_with_len (first_green net n (λ d. not (is_above d v))) 0 (length n.stages)
+greens_count net n v = length-set (least_greens net n v) 0 _ ∙ first_count net n (λ d. not (is_above d v))

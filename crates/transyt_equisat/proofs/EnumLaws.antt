@@ -3,7 +3,7 @@ use Rattle.std.proofs.Common.{◌≡◌, ℕ, zero, suc, ◌+◌, ◌-◌, ◌<�
 use Rattle.std.proofs.Common.{sym, ◌∙◌, ap, refl, subst, arith}
 use Rattle.std.specs.List.{range_with_len, flat_map, Contains}
 use Rattle.std.proofs.lemmas.List.Sums.{sum_by-cons}
-use Rattle.std.proofs.lemmas.List.Elements.{All-nil, All-cons, All-head, All-tail, All-append, All-map, All-weaker, Contains-append_left, Contains-append_right}
+use Rattle.std.proofs.lemmas.List.Elements.{All-nil, All-cons, All-head, All-tail, All-append, All-map, Contains-append_left, Contains-append_right}
 use Rattle.std.proofs.lemmas.List.{length-map, get_or-map}
 use Rattle.std.proofs.lemmas.List.FromFn.{length-range_with_len, get_or-range_with_len}
 use Rattle.transyt_parts.specs.declared.node.Stage.{Stage}
@@ -25,21 +25,18 @@ joined f [] k d y inside h = absurd (omega arith)
 joined f (x ∷ xs) zero d y inside h = Contains-append_left (f x) (flat_map f xs) y h
 joined f (x ∷ xs) (suc k) d y inside h = Contains-append_right (f x) (flat_map f xs) y (joined f xs k d y (omega arith) h)
 
--- none is below its least
-cons_least : (s : Stage) (ss : List Stage) (e : ℕ) (es : List ℕ) → s.least ≤ e
-    → ((k : ℕ) → k < length ss → (stage_of ss k).least ≤ get_or es k 0)
-    → (k : ℕ) → k < length (s ∷ ss) → (stage_of (s ∷ ss) k).least ≤ get_or (e ∷ es) k 0
-cons_least s ss e es here rest zero below = here
-cons_least s ss e es here rest (suc k) below = rest k (omega arith)
-
 -- greens with one more in front
 pub fits_cons : (s : Stage) (ss : List Stage) (left e : ℕ) (es : List ℕ) → s.least ≤ e → e + s.intergreen ≤ left
     → Fits (left - (e + s.intergreen)) ss es → Fits left (s ∷ ss) (e ∷ es)
 fits_cons s ss left e es least room rest = record {
   count = omega (arith, rest.count);
-  least = λ k below. cons_least s ss e es least rest.least k below;
+  least = each;
   fills = omega (arith, sum_by-cons (λ n. n) e es, sum_by-cons (λ (s : Stage). s.intergreen) s ss, rest.fills);
 }
+  where
+    each : (k : ℕ) → k < length (s ∷ ss) → (stage_of (s ∷ ss) k).least ≤ get_or (e ∷ es) k 0
+    each zero below = least
+    each (suc k) below = rest.least k (omega arith)
 
 -- each list of greens in it fits
 pub all_fit : (ss : List Stage) (left : ℕ) → All (λ es. Fits left ss es) (all_greens ss left)
@@ -54,20 +51,16 @@ all_fit (s ∷ ss) left =
     let inside : k < n = omega (arith, length-range_with_len s.least n) in
     let e : ℕ = get_or (range_with_len s.least n) k d in
     let at : e ≡ s.least + k = get_or-range_with_len s.least n k d inside in
-    All-map (λ es. Fits left (s ∷ ss) es) (λ es. e ∷ es) (all_greens ss (left - (e + s.intergreen))) (
-    All-weaker (λ es. Fits (left - (e + s.intergreen)) ss es) (λ es. Fits left (s ∷ ss) (e ∷ es))
-    (λ es rest. fits_cons s ss left e es (omega arith) (omega arith) rest)
-    (all_greens ss (left - (e + s.intergreen))) (all_fit ss (left - (e + s.intergreen)))
+    let tails = all_greens ss (left - (e + s.intergreen)) in
+    All-map (λ es. Fits left (s ∷ ss) es) (λ es. e ∷ es) tails (
+    λ j end below. fits_cons s ss left e (get_or tails j end) (omega arith) (omega arith)
+    (all_fit ss (left - (e + s.intergreen)) j end below)
     )
     )
 
 -- the items that a part of a list gives
 pub Contains_map : {A B : Type 0} (f : A → B) (xs : List A) (x : A) → Contains xs x → Contains (map f xs) (f x)
-Contains_map f xs x (k, inside, same) = (
-  k,
-  omega (arith, length-map xs f),
-  get_or-map f xs k x (f x) inside ∙ ap f same,
-)
+Contains_map f xs x (k, inside, same) = (k, omega (arith, length-map xs f), get_or-map f xs k x (f x) inside ∙ ap f same)
 
 -- and greens that fit stand in it
 pub fits_listed : (ss : List Stage) (left : ℕ) (es : List ℕ) → Fits left ss es → Contains (all_greens ss left) es

@@ -8,10 +8,6 @@ use Rattle.transyt_equisat.specs.Degrees.{is_above, greatest, nothing}
 use Rattle.transyt_equisat.specs.Balance.{least_of}
 use Rattle.transyt_equisat.proofs.FractionLaws.{not_above, not_above-trans, above_not}
 
--- a fraction isn't above itself
-not_above-self : (a : Fraction) → is_above a a ≡ false
-not_above-self a = not_above a a (omega arith)
-
 -- a test of two fractions that orders them
 pub record IsOrder (over : Fraction → Fraction → Bool) : Type 0 where
   pub self : (a : Fraction) → over a a ≡ false
@@ -20,12 +16,12 @@ pub record IsOrder (over : Fraction → Fraction → Bool) : Type 0 where
 
 -- to be above is one
 above : IsOrder is_above
-above = record { self = not_above-self; trans = not_above-trans; one_way = above_not }
+above = record { self = λ a. not_above a a (omega arith); trans = not_above-trans; one_way = above_not }
 
 -- and so is to be below
 below : IsOrder (λ a b. is_above b a)
 below = record {
-  self = not_above-self;
+  self = λ a. not_above a a (omega arith);
   trans = λ a b c base ab bc. not_above-trans c b a base bc ab;
   one_way = λ a b is. above_not b a is;
 }
@@ -51,27 +47,29 @@ neither_over over order a d =
       | inr not_so ↦ rw not_so (order.self a, not_so)
     ]
 
-abbrev HasBase : Fraction → Type 0
+-- a positive base
+abbrev pub HasBase : Fraction → Type 0
 HasBase d = 0 < d.base
 
 -- neither the first nor any of the others is over the one that is over them
-none_over : (over : Fraction → Fraction → Bool) → IsOrder over → (ds : List Fraction) (a : Fraction) → 0 < a.base
-    → All (λ d. 0 < d.base) ds
-    → (over a (fold (over_of over) a ds) ≡ false) × All (λ d. over d (fold (over_of over) a ds) ≡ false) ds
-none_over over order [] a base bases = (order.self a, All-nil (λ d. over d a ≡ false))
+none_over : (over : Fraction → Fraction → Bool) → IsOrder over → (ds : List Fraction) (a : Fraction) → 0 < a.base → All HasBase ds
+    → All (λ d. over d (fold (over_of over) a ds) ≡ false) (a ∷ ds)
+none_over over order [] a base bases = All-cons (λ d. over d a ≡ false) a [] (order.self a) (All-nil (λ d. over d a ≡ false))
 none_over over order (d ∷ ds) a base bases =
     let next : Fraction = over_of over a d in
     let end : Fraction = fold (over_of over) a (d ∷ ds) in
+    let Under : Fraction → Type 0 = λ x. over x end ≡ false in
     let next_base = cond_both (over d a) d a HasBase (λ is. All-head HasBase d ds bases) (λ not_so. base) in
     let rest = none_over over order ds next next_base (All-tail HasBase d ds bases) in
-    let two = neither_over over order a d in (
-      order.trans a next end next_base two.0 rest.0,
-      All-cons (λ x. over x end ≡ false) d ds (order.trans d next end next_base two.1 rest.0) rest.1,
-    )
+    let last = All-head Under next ds rest in
+    let two = neither_over over order a d in
+    All-cons Under a (d ∷ ds) (order.trans a next end next_base two.0 last)
+    (All-cons Under d ds (order.trans d next end next_base two.1 last) (All-tail Under next ds rest))
 
 -- none is above the greatest
-pub all_under : (ds : List Fraction) → All (λ d. 0 < d.base) ds → All (λ d. is_above d (greatest ds) ≡ false) ds
-all_under ds bases = (none_over is_above above ds nothing (omega arith) bases).1
+pub all_under : (ds : List Fraction) → All HasBase ds → All (λ d. is_above d (greatest ds) ≡ false) ds
+all_under ds bases =
+    All-tail (λ d. is_above d (greatest ds) ≡ false) nothing ds (none_over is_above above ds nothing (omega arith) bases)
 
 -- the least of some has what all have
 pub least_of_some : (P : Fraction → Type 0) (ds : List Fraction) → 0 < length ds → All P ds → P (least_of ds)
@@ -79,8 +77,7 @@ least_of_some P [] some all = absurd (omega arith)
 least_of_some P (d ∷ ds) some all = extreme_has (λ a b. is_above b a) P ds d (All-head P d ds all) (All-tail P d ds all)
 
 -- the least of fractions is above none of them
-pub least_under : (ds : List Fraction) → All (λ d. 0 < d.base) ds → All (λ d. is_above (least_of ds) d ≡ false) ds
+pub least_under : (ds : List Fraction) → All HasBase ds → All (λ d. is_above (least_of ds) d ≡ false) ds
 least_under [] bases = All-nil (λ d. is_above nothing d ≡ false)
 least_under (d ∷ ds) bases =
-    let both = none_over (λ a b. is_above b a) below ds d (All-head HasBase d ds bases) (All-tail HasBase d ds bases) in
-    All-cons (λ x. is_above (least_of (d ∷ ds)) x ≡ false) d ds both.0 both.1
+    none_over (λ a b. is_above b a) below ds d (All-head HasBase d ds bases) (All-tail HasBase d ds bases)

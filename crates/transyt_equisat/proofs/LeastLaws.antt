@@ -1,9 +1,8 @@
 -- The least peak of the definition is the least in the sense of what the stages ask, and there is only one.
-use Rattle.std.proofs.Common.{◌≡◌, ℕ, ◌<◌, false, List, All, map, length}
-use Rattle.std.proofs.Common.{arith}
+use Rattle.std.proofs.Common.{◌≡◌, ℕ, ◌<◌, false, List, All, map, length, get_or, arith}
 use Rattle.std.specs.List.{Contains}
 use Rattle.std.proofs.lemmas.List.{length-map}
-use Rattle.std.proofs.lemmas.List.Elements.{All-map, All-weaker, All-contains}
+use Rattle.std.proofs.lemmas.List.Elements.{All-map, All-contains}
 use Rattle.transyt_parts.specs.Parts.{NodeValue}
 use Rattle.transyt_net.specs.Parts.{Network}
 use Rattle.transyt_equisat.specs.declared.fraction.Fraction.{Fraction}
@@ -22,9 +21,8 @@ all_peaks : (net : Network) (n : NodeValue) (P : Fraction → Type 0)
     → ((es : List ℕ) → Fits net.frame.step_count n.stages es → P (peak net n.number es))
     → All P (map (peak net n.number) (all_greens n.stages net.frame.step_count))
 all_peaks net n P each =
-    All-map P (peak net n.number) (all_greens n.stages net.frame.step_count)
-    (All-weaker (λ es. Fits net.frame.step_count n.stages es) (λ es. P (peak net n.number es)) each
-    (all_greens n.stages net.frame.step_count) (all_fit n.stages net.frame.step_count))
+    let all = all_greens n.stages net.frame.step_count in
+    All-map P (peak net n.number) all (λ k d below. each (get_or all k d) (all_fit n.stages net.frame.step_count k d below))
 
 -- the least peak of the definition is a least peak
 pub least_is_least : (net : Network) (n : NodeValue) → IsSetting net n
@@ -45,7 +43,7 @@ least_is_least net n setting =
           let listed = Contains_map (peak net n.number) (all_greens n.stages steps) es (fits_listed n.stages steps es fits) in
           not_above-trans (least_of peaks) (peak net n.number es) w (peak_base net n setting es fits)
           (All-contains (λ d. is_above (least_of peaks) d ≡ false) peaks (peak net n.number es) (least_under peaks based) listed)
-          (peak_under net n setting es w fits under);
+          (peak_under net n setting es fits w under);
     }
 
 -- two least peaks are equal

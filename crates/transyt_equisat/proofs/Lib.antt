@@ -1,9 +1,7 @@
 pub mod FractionLaws
-pub mod DegreeLaws
 pub mod DemandLaws
 pub mod ExtremeLaws
 pub mod FilterLaws
-pub mod SameLaws
 pub mod SearchLaws
 pub mod SharingLaws
 pub mod PeakLaws
@@ -16,8 +14,6 @@ pub mod AlikeLaws
 pub mod AskedLaws
 pub mod FilledLaws
 pub mod GreensLaws
-pub mod ReachedLaws
-pub mod NeedsLaws
 pub mod WorthLaws
 pub mod AnswerLaws
 pub mod WorkedPeaks

@@ -1,13 +1,11 @@
 -- The peak over the counted links is that over what the stages ask.
-use Rattle.std.proofs.Common.{◌≡◌, ℕ, ◌+◌, ◌-◌, ◌<◌, ◌≤◌, Bool, true, false, not, nat_eq, List, All, map, length}
-use Rattle.std.proofs.Common.{sym, ◌∙◌, ap, arith, get_or}
-use Rattle.std.proofs.Math.Nat.{mul-pos}
+use Rattle.std.proofs.Common.{◌≡◌, ℕ, ◌+◌, ◌-◌, ◌<◌, Bool, true, false, not, nat_eq, List, All, map, length}
+use Rattle.std.proofs.Common.{sym, ◌∙◌, ap, arith, get_or, mul-pos, eq-eqb, eqb-true}
 use Rattle.std.proofs.lemmas.Bool.{not-true, and_parts, and_from}
 use Rattle.std.specs.List.{filter}
 use Rattle.std.proofs.lemmas.List.Sums.{AllPass-from_list_all, list_all-from_AllPass}
-use Rattle.std.proofs.lemmas.List.FromFn.{get_or-map-range_with_len, length-map-range_with_len}
-use Rattle.std.proofs.lemmas.Bool.Decides.{nat_tests}
-use Rattle.transyt_parts.specs.Parts.{LinkValue, NodeValue}
+use Rattle.std.proofs.lemmas.List.FromFn.{get_or-map-range_with_len}
+use Rattle.transyt_parts.specs.Parts.{NodeValue, LinkValue}
 use Rattle.transyt_net.specs.Parts.{Network}
 use Rattle.transyt_equisat.specs.declared.fraction.Fraction.{Fraction}
 use Rattle.transyt_equisat.specs.declared.demand.Demand.{Demand}
@@ -16,7 +14,7 @@ use Rattle.transyt_equisat.specs.Sharing.{degree_of, demand_in, demands_of, no_d
 use Rattle.transyt_equisat.specs.Peaks.{Fits, green_of, peak}
 use Rattle.transyt_equisat.proofs.SettingLaws.{IsSetting}
 use Rattle.transyt_equisat.proofs.DemandLaws.{IsLower, stage_tested, not_above_lower}
-use Rattle.transyt_equisat.proofs.ExtremeLaws.{extreme_has, all_under}
+use Rattle.transyt_equisat.proofs.ExtremeLaws.{HasBase, extreme_has, all_under}
 use Rattle.transyt_equisat.proofs.FilterLaws.{picked_each, each_picked, all_mapped, mapped_all}
 
 -- the demand of the stage at a place
@@ -24,24 +22,6 @@ pub demand_there : (net : Network) (number count k : ℕ) → k < count
     → get_or (demands_of net number count) k no_demand ≡ demand_in net number (k + 1)
 demand_there net number count k inside =
     get_or-map-range_with_len (λ k. demand_in net number (k + 1)) 0 count k k no_demand inside (omega arith)
-
--- how many demands there are
-pub demand_count : (net : Network) (number count : ℕ) → length (demands_of net number count) ≡ count
-demand_count net number count = length-map-range_with_len (λ k. demand_in net number (k + 1)) 0 count
-
--- a counted link counts in its stage
-counts_there : (number : ℕ) (l : LinkValue) → is_counted number l ≡ true → 1 ≤ first_stage l
-    → counts_in number (first_stage l - 1 + 1) l ≡ true
-counts_there number l counts first =
-    let same : first_stage l - 1 + 1 ≡ first_stage l = omega arith in
-    and_from (is_counted number l) (nat_eq (first_stage l) (first_stage l - 1 + 1)) counts (grind (arith, nat_tests, same))
-
--- a link that counts in a stage is counted, and has that stage
-counts_parts : (number stage : ℕ) (l : LinkValue) → counts_in number stage l ≡ true
-    → (is_counted number l ≡ true) × (first_stage l ≡ stage)
-counts_parts number stage l counts =
-    let both = and_parts (is_counted number l) (nat_eq (first_stage l) stage) counts in
-    (both.0, grind (arith, nat_tests, both.1))
 
 -- each counted link has a degree at these greens that passes a test
 abbrev pub LinksPass : (Fraction → Bool) → Network → NodeValue → List ℕ → Type 0
@@ -58,9 +38,9 @@ module _ (net : Network) (n : NodeValue) (setting : IsSetting net n) where
   green_alive es fits k inside = omega (arith, setting.least k inside, fits.least k inside)
 
   -- a lower test that each stage passes, each counted link passes
-  pub links_pass : (test : Fraction → Bool) → IsLower test → (es : List ℕ) → Fits net.frame.step_count n.stages es
+  pub links_pass : {test : Fraction → Bool} → IsLower test → (es : List ℕ) → Fits net.frame.step_count n.stages es
       → StagesPass test net n es → LinksPass test net n es
-  links_pass test lower es fits pass = λ i d there.
+  links_pass {test} lower es fits pass = λ i d there.
       let l : LinkValue = get_or net.links i d in
       λ counts.
       let stage = setting.within i d there counts in
@@ -72,65 +52,65 @@ module _ (net : Network) (n : NodeValue) (setting : IsSetting net n) where
       ∙ pass k inside in
       picked_each (λ l. test (degree net.frame.step_count l e) ≡ true) (counts_in n.number (k + 1)) net.links
       (AllPass-from_list_all (λ l. test (degree net.frame.step_count l e)) (filter (counts_in n.number (k + 1)) net.links)
-      (stage_tested test lower net n.number (k + 1) e (green_alive es fits k inside) setting.live ∙ asked))
-      i d there (counts_there n.number l counts stage.0)
+      (stage_tested lower net n.number (k + 1) e (green_alive es fits k inside) setting.live ∙ asked))
+      i d there (and_from _ _ counts (eq-eqb (first_stage l) (k + 1) (omega (arith, stage.0))))
 
   -- and the other way round
-  pub stages_pass : (test : Fraction → Bool) → IsLower test → (es : List ℕ) → Fits net.frame.step_count n.stages es
+  pub stages_pass : {test : Fraction → Bool} → IsLower test → (es : List ℕ) → Fits net.frame.step_count n.stages es
       → LinksPass test net n es → StagesPass test net n es
-  stages_pass test lower es fits pass k inside =
+  stages_pass {test} lower es fits pass k inside =
       let e : ℕ = get_or es k 0 in
       let each : All (λ l. counts_in n.number (k + 1) l ≡ true → test (degree net.frame.step_count l e) ≡ true) net.links =
       λ i d there. λ counts.
       let l : LinkValue = get_or net.links i d in
-      let both = counts_parts n.number (k + 1) l counts in
-      let place : first_stage l - 1 ≡ k = omega (arith, both.1) in
+      let both = and_parts (is_counted n.number l) (nat_eq (first_stage l) (k + 1)) counts in
+      let place : first_stage l - 1 ≡ k = omega (arith, eqb-true _ _ both.1) in
       ap (λ j. test (degree net.frame.step_count l (get_or es j 0))) (sym place) ∙ pass i d there both.0 in
       ap (λ (d : Demand). test (degree_of net.frame.step_count d e)) (demand_there net n.number (length n.stages) k inside)
-      ∙ sym (stage_tested test lower net n.number (k + 1) e (green_alive es fits k inside) setting.live)
+      ∙ sym (stage_tested lower net n.number (k + 1) e (green_alive es fits k inside) setting.live)
       ∙ list_all-from_AllPass (λ l. test (degree net.frame.step_count l e)) (filter (counts_in n.number (k + 1)) net.links)
       (each_picked (λ l. test (degree net.frame.step_count l e) ≡ true) (counts_in n.number (k + 1)) net.links each)
 
   -- a lower test that each counted link passes, the peak passes
-  pub peak_passes : (test : Fraction → Bool) → IsLower test → (es : List ℕ) → LinksPass test net n es
+  pub peak_passes : {test : Fraction → Bool} → IsLower test → (es : List ℕ) → LinksPass test net n es
       → test (peak net n.number es) ≡ true
-  peak_passes test lower es pass =
+  peak_passes {test} lower es pass =
       let deg : LinkValue → Fraction = λ l. degree net.frame.step_count l (green_of es l) in
       extreme_has is_above (λ d. test d ≡ true) (map deg (filter (is_counted n.number) net.links)) nothing (lower.none 0 1 (omega arith))
       (all_mapped (λ d. test d ≡ true) deg (is_counted n.number) net.links pass)
 
-  -- the degrees of counted links have positive bases
-  bases : (es : List ℕ) → Fits net.frame.step_count n.stages es
-      → All (λ d. 0 < d.base) (map (λ l. degree net.frame.step_count l (green_of es l)) (filter (is_counted n.number) net.links))
-  bases es fits =
-      all_mapped (λ d. 0 < d.base) (λ l. degree net.frame.step_count l (green_of es l)) (is_counted n.number) net.links (
-      λ i d below. λ counts.
-      let l : LinkValue = get_or net.links i d in
-      let stage = setting.within i d below counts in
-      mul-pos {n = green_of es l} (setting.live i d below)
-      (green_alive es fits (first_stage l - 1) (omega (arith, stage.0, stage.1)))
-      )
+  module _ (es : List ℕ) (fits : Fits net.frame.step_count n.stages es) where
+    -- the degrees of the counted links
+    abbrev degrees : List Fraction
+    degrees = map (λ l. degree net.frame.step_count l (green_of es l)) (filter (is_counted n.number) net.links)
 
-  -- the base of a peak is positive
-  pub peak_base : (es : List ℕ) → Fits net.frame.step_count n.stages es → 0 < (peak net n.number es).base
-  peak_base es fits =
-      extreme_has is_above (λ d. 0 < d.base) (map (λ l. degree net.frame.step_count l (green_of es l)) (filter (is_counted n.number) net.links)) nothing
-      (omega arith) (bases es fits)
+    -- they have positive bases
+    bases : All HasBase degrees
+    bases =
+        all_mapped HasBase (λ l. degree net.frame.step_count l (green_of es l)) (is_counted n.number) net.links (
+        λ i d below. λ counts.
+        let l : LinkValue = get_or net.links i d in
+        let stage = setting.within i d below counts in
+        mul-pos {n = green_of es l} (setting.live i d below)
+        (green_alive es fits (first_stage l - 1) (omega (arith, stage.0, stage.1)))
+        )
 
-  -- no stage is above the peak
-  pub under_peak : (es : List ℕ) → Fits net.frame.step_count n.stages es → IsUnder (asked_of net n) es (peak net n.number es)
-  under_peak es fits k inside =
-      let top : Fraction = peak net n.number es in
-      let deg : LinkValue → Fraction = λ l. degree net.frame.step_count l (green_of es l) in
-      not-true (is_above (degree_at (asked_of net n) es k) top)
-      (stages_pass (λ d. not (is_above d top)) (not_above_lower top) es fits
-      (λ i d there. λ counts. ap not (mapped_all (λ d. is_above d top ≡ false) deg (is_counted n.number) net.links
-      (all_under (map deg (filter (is_counted n.number) net.links)) (bases es fits)) i d there counts)) k inside)
+    -- the base of a peak is positive
+    pub peak_base : 0 < (peak net n.number es).base
+    peak_base = extreme_has is_above HasBase degrees nothing (omega arith) bases
 
-  -- where no stage is above v, the peak isn't
-  pub peak_under : (es : List ℕ) (v : Fraction) → Fits net.frame.step_count n.stages es → IsUnder (asked_of net n) es v
-      → is_above (peak net n.number es) v ≡ false
-  peak_under es v fits under =
-      not-true (is_above (peak net n.number es) v)
-      (peak_passes (λ d. not (is_above d v)) (not_above_lower v) es (links_pass (λ d. not (is_above d v)) (not_above_lower v) es fits
-      (λ k inside. ap not (under k inside))))
+    -- no stage is above the peak
+    pub under_peak : IsUnder (asked_of net n) es (peak net n.number es)
+    under_peak k inside =
+        let top : Fraction = peak net n.number es in
+        not-true (is_above (degree_at (asked_of net n) es k) top)
+        (stages_pass (not_above_lower top) es fits
+        (λ i d there. λ counts. ap not (mapped_all (λ d. is_above d top ≡ false)
+        (λ l. degree net.frame.step_count l (green_of es l)) (is_counted n.number) net.links (all_under degrees bases) i d there counts))
+        k inside)
+
+    -- where no stage is above v, the peak isn't
+    pub peak_under : (v : Fraction) → IsUnder (asked_of net n) es v → is_above (peak net n.number es) v ≡ false
+    peak_under v under =
+        not-true (is_above (peak net n.number es) v)
+        (peak_passes (not_above_lower v) es (links_pass (not_above_lower v) es fits (λ k inside. ap not (under k inside))))

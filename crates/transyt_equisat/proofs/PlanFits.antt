@@ -1,48 +1,25 @@
 -- The greens of an allowed plan fill the cycle.
-use Rattle.std.proofs.Common.{◌≡◌, ◌≢◌, ℕ, zero, suc, ◌+◌, ◌-◌, ◌<◌, ◌≤◌, true, not, List, [], ◌∷◌, map, length, sum, get_or}
-use Rattle.std.proofs.Common.{sym, ◌∙◌, ap, refl, arith, inl, inr, take, set, None, nat_le, ◌==◌}
+use Rattle.std.proofs.Common.{◌≡◌, ◌≢◌, ℕ, zero, suc, ◌+◌, ◌-◌, ◌<◌, ◌≤◌, List, map, length, sum, get_or}
+use Rattle.std.proofs.Common.{sym, ◌∙◌, ap, refl, arith, inl, inr, take, set, None, eq-zero-or-pos}
 use Rattle.std.specs.List.{range_with_len}
-use Rattle.std.proofs.Math.Nat.{eq-zero-or-pos}
-use Rattle.std.proofs.lemmas.Bool.{leb-true, not-false}
-use Rattle.std.proofs.lemmas.Bool.Decides.{nat_tests}
 use Rattle.std.proofs.lemmas.List.{get_or-map, length-map, take_all, length-set, get_or-set_other}
-use Rattle.std.proofs.lemmas.List.Sums.{AllPass-from_list_all, sum_by-cons, sum_by_more, sum_by-set}
-use Rattle.std.proofs.lemmas.List.Sums.{get_or-le-sum_by}
-use Rattle.std.proofs.lemmas.List.FromFn.{length-range_with_len, get_or-range_with_len, length-map-range_with_len}
-use Rattle.std.proofs.lemmas.List.FromFn.{sum_by-map-range_with_len_more, get_or-map-range_with_len}
+use Rattle.std.proofs.lemmas.List.Folds.{fold-map}
+use Rattle.std.proofs.lemmas.List.Sums.{sum_by_more, sum_by-set, get_or-le-sum_by}
+use Rattle.std.proofs.lemmas.List.FromFn.{length-map-range_with_len, sum_by-map-range_with_len_more, get_or-map-range_with_len}
 use Rattle.transyt_parts.specs.declared.node.Stage.{Stage}
 use Rattle.transyt_parts.specs.Made.{bare_stage}
-use Rattle.transyt_parts.specs.Plan.{stage_of, no_stage, length_at, stage_lengths, in_order, has_green, have_greens, plan_fault}
-use Rattle.transyt_net.proofs.WriteLaws.{no_fault}
+use Rattle.transyt_parts.specs.Plan.{stage_of, no_stage, length_at, stage_lengths, plan_fault}
+use Rattle.transyt_parts.proofs.PlanFacts.{planned}
 use Rattle.transyt_equisat.specs.Peaks.{Fits, intergreens, greens_of, IsPlanOf}
 
 -- the green of the stage at a place
 abbrev pub green_at : ℕ → List Stage → ℕ → ℕ
 green_at steps stages k = length_at steps stages k - (stage_of stages k).intergreen
 
--- a plan without a fault, by its parts
+-- a plan without a fault has two stages or more, and its lengths add up to the cycle
 pub plan_parts : (steps : ℕ) (plan : List Stage) → plan_fault steps plan ≡ None
-    → (2 ≤ length plan) × (sum (stage_lengths steps plan) ≡ steps) × (have_greens steps plan ≡ true)
-plan_parts steps plan none =
-    let few = no_fault (not (nat_le 2 (length plan))) _ _ none in
-    let order = no_fault (not (in_order steps plan)) _ _ few.1 in
-    let short = no_fault (not (have_greens steps plan)) _ _ order.1 in
-    let many : nat_le 2 (length plan) ≡ true = not-false (nat_le 2 (length plan)) few.0 in
-    let sums : (sum (stage_lengths steps plan) == steps) ≡ true = not-false (in_order steps plan) order.0 in (
-      leb-true 2 (length plan) many,
-      grind (arith, nat_tests, sums),
-      not-false (have_greens steps plan) short.0,
-    )
-
--- the room of the stage at a place
-pub green_room : (steps : ℕ) (plan : List Stage) (k : ℕ) → have_greens steps plan ≡ true → k < length plan
-    → (stage_of plan k).intergreen + (stage_of plan k).least ≤ length_at steps plan k
-green_room steps plan k all inside =
-    let place = get_or-range_with_len 0 (length plan) k 0 inside in
-    leb-true ((stage_of plan k).intergreen + (stage_of plan k).least) (length_at steps plan k)
-    (ap (has_green steps plan) (sym (place ∙ omega arith))
-    ∙ AllPass-from_list_all (has_green steps plan) (range_with_len 0 (length plan)) all k 0
-    (omega (arith, length-range_with_len 0 (length plan))))
+    → (2 ≤ length plan) × (sum (stage_lengths steps plan) ≡ steps)
+plan_parts steps plan none = let is = (planned steps plan).0 none in (is.two, is.in_order)
 
 -- greens and intergreens make up the lengths
 sum_parts : (steps : ℕ) (plan : List Stage) (n : ℕ) → n ≤ length plan
@@ -67,54 +44,45 @@ pub lengths_sum : (steps : ℕ) (plan : List Stage)
 lengths_sum steps plan room =
     ap (λ ss. sum (greens_of steps plan) + intergreens ss) (sym (take_all (length plan) plan (omega arith))) ∙ sum_parts steps plan (length plan) (omega arith) room
 
--- a change doesn't count in what intergreens take
-pub intergreens_bare : (ss : List Stage) → intergreens (map bare_stage ss) ≡ intergreens ss
-intergreens_bare [] = refl
-intergreens_bare (s ∷ ss) =
-    omega (
-      arith,
-      sum_by-cons (λ (s : Stage). s.intergreen) (bare_stage s) (map bare_stage ss),
-      sum_by-cons (λ (s : Stage). s.intergreen) s ss,
-      intergreens_bare ss,
-    )
-
--- stages that differ at most in their changes
-pub same_at : (plan stages : List Stage) (k : ℕ) → map bare_stage plan ≡ map bare_stage stages → k < length stages
-    → bare_stage (stage_of plan k) ≡ bare_stage (stage_of stages k)
-same_at plan stages k same inside =
-    let count : length plan ≡ length stages = sym (length-map plan bare_stage) ∙ ap length same ∙ length-map stages bare_stage in
-    sym (get_or-map bare_stage plan k no_stage no_stage (omega arith))
-    ∙ ap (λ ss. get_or ss k no_stage) same ∙ get_or-map bare_stage stages k no_stage no_stage inside
+-- stages that differ at most in their changes have the same intergreens
+pub same_gaps : (plan stages : List Stage) → map bare_stage plan ≡ map bare_stage stages → intergreens plan ≡ intergreens stages
+same_gaps plan stages same =
+    let bare = fold-map (λ (n : ℕ) (s : Stage). n + s.intergreen) bare_stage 0 in
+    sym (bare plan) ∙ ap intergreens same ∙ bare stages
 
 -- the greens of an allowed plan fill the cycle
 pub plan_fits : (steps : ℕ) (stages plan : List Stage) → IsPlanOf steps stages plan → Fits steps stages (greens_of steps plan)
 plan_fits steps stages plan is =
-    let parts = plan_parts steps plan is.allowed in
+    let plan_is = (planned steps plan).0 is.allowed in
     let count : length plan ≡ length stages =
     sym (length-map plan bare_stage) ∙ ap length is.same ∙ length-map stages bare_stage in
-    let gaps : intergreens plan ≡ intergreens stages = sym (intergreens_bare plan) ∙ ap intergreens is.same ∙ intergreens_bare stages in
-    let room = λ (k : ℕ) (inside : k < length plan). green_room steps plan k parts.2 inside in
     record {
       count = length-map-range_with_len (green_at steps plan) 0 (length plan) ∙ count;
       least = λ k below.
           let inside : k < length plan = omega arith in
           let here = get_or-map-range_with_len (green_at steps plan) 0 (length plan) k k 0 inside (omega arith) in
-          let same = ap (λ (s : Stage). s.least) (same_at plan stages k is.same below) in
-          omega (arith, room k inside, here, same);
-      fills = omega (arith, lengths_sum steps plan (λ k inside. omega (arith, room k inside)), parts.1, gaps);
+          let same : bare_stage (stage_of plan k) ≡ bare_stage (stage_of stages k) =
+          sym (get_or-map bare_stage plan k no_stage no_stage inside)
+          ∙ ap (λ ss. get_or ss k no_stage) is.same ∙ get_or-map bare_stage stages k no_stage no_stage below in
+          omega (arith, plan_is.greens k inside, here, ap (λ (s : Stage). s.least) same);
+      fills = omega (
+        arith,
+        lengths_sum steps plan (λ k inside. omega (arith, plan_is.greens k inside)),
+        plan_is.in_order,
+        same_gaps plan stages is.same,
+      );
     }
 
 -- a green leaves room for another one
 one_beside : (steps : ℕ) (stages : List Stage) (gs : List ℕ) (k j : ℕ) → Fits steps stages gs → j ≢ k → k < length stages
     → j < length stages → 0 < (stage_of stages j).least → get_or gs k 0 + (stage_of stages k).intergreen < steps
 one_beside steps stages gs k j fits other inside beside some =
-    let count = fits.count in
     omega (
       arith,
-      sum_by-set (λ n. n) gs k 0 0 (omega arith),
+      sum_by-set (λ n. n) gs k 0 0 (omega (arith, fits.count)),
       get_or-le-sum_by (λ (s : Stage). s.intergreen) stages k no_stage inside,
       get_or-set_other gs k j 0 0 other,
-      get_or-le-sum_by (λ n. n) (set gs k 0) j 0 (omega (arith, length-set gs k 0)),
+      get_or-le-sum_by (λ n. n) (set gs k 0) j 0 (omega (arith, fits.count, length-set gs k 0)),
       fits.least j beside,
       fits.fills,
     )
@@ -125,8 +93,6 @@ pub one_shorter : (steps : ℕ) (stages : List Stage) (gs : List ℕ) (k : ℕ) 
     → get_or gs k 0 + (stage_of stages k).intergreen < steps
 one_shorter steps stages gs k fits two some inside =
     elim (eq-zero-or-pos k) [
-      | inl first ↦
-          one_beside steps stages gs k 1 fits (λ same. omega arith) inside (omega arith) (some 1 (omega arith))
-      | inr later ↦
-          one_beside steps stages gs k 0 fits (λ same. omega arith) inside (omega arith) (some 0 (omega arith))
+      | inl first ↦ one_beside steps stages gs k 1 fits (λ same. omega arith) inside (omega arith) (some 1 (omega arith))
+      | inr later ↦ one_beside steps stages gs k 0 fits (λ same. omega arith) inside (omega arith) (some 0 (omega arith))
     ]

@@ -4,6 +4,8 @@ use Rattle.std.specs.List.{find}
 use Rattle.std.proofs.lemmas.List.{drop_more}
 use Rattle.std.proofs.Math.Nat.{eq-or-lt_of_le}
 use Rattle.std.proofs.lemmas.Bool.{cases_Bool}
+use Rattle.transyt_parts.specs.Parts.{LinkValue}
+use Rattle.transyt_net.specs.Parts.{no_link}
 use Rattle.transyt_equisat.specs.Balance.{first_from}
 
 -- a number that doesn't pass
@@ -36,7 +38,7 @@ first_least test e (suc n) k low high passes =
       ]
     ]
 
--- a search in a list goes on behind what doesn't pass
-pub find_skip : {A : Type 0} (test : A → Bool) (xs : List A) (p : ℕ) (d : A) → p < length xs → test (get_or xs p d) ≡ false
-    → find test (drop (p + 1) xs) ≡ find test (drop p xs)
-find_skip test xs p d inside fails = rw (drop_more xs p d inside, fails)
+-- a search in links goes on behind a link that doesn't pass
+pub find_skip : (test : LinkValue → Bool) (links : List LinkValue) (p : ℕ) → p < length links → test (get_or links p no_link) ≡ false
+    → find test (drop (p + 1) links) ≡ find test (drop p links)
+find_skip test links p inside fails = rw (drop_more links p no_link inside, fails)

@@ -37,6 +37,7 @@ fn is_counted(link: &Link, number: u32) -> bool
 }
 
 /// The least greens of the stages for a peak.
+#[tactic(auto, using(crate::proofs::AskedLaws::range_next))]
 fn greens_for(alloc: Global, asked: &Asked, peak: Fraction) -> Result<Vec<u32>, AllocError>
     ensures { IfOk result (λ greens. greens.items ≡
         map (green_by_demand asked.now peak) (range_with_len 0 (length asked.now.stages))) }
@@ -50,6 +51,7 @@ fn greens_for(alloc: Global, asked: &Asked, peak: Fraction) -> Result<Vec<u32>, 
 }
 
 /// The shares of the stages for a peak and greens.
+#[tactic(auto, using(crate::proofs::AskedLaws::range_next))]
 fn shares_for(
     alloc: Global,
     here: &StageGreens<'_, '_>,
@@ -97,6 +99,7 @@ fn reaches(here: &NodeGreens<'_>, place: usize, peak: Fraction) -> bool
 }
 
 /// The place of the first counted link that reaches the peak.
+#[tactic(auto, using(crate::proofs::SearchLaws::find_skip))]
 fn reaching(here: &NodeGreens<'_>, peak: Fraction) -> Option<usize>
     ensures value { option_map (link_of here.now.net.now) result
         ≡ find (reaches here.now.net.now here.now.number peak here.now.greens.now)

@@ -73,6 +73,7 @@ fn demand_in(net: &Net, number: u32, stage: u32) -> Demand
 }
 
 /// The demands of the first `count` stages of a node.
+#[tactic(auto, using(crate::proofs::AskedLaws::range_next))]
 pub fn demands_of(
     alloc: Global,
     net: &Net,

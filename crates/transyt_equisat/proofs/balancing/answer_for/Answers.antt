@@ -51,6 +51,6 @@ returns c =
       c.args.here.now.theirs,
       number,
       others,
-      shares_asked net n c.args.peak gs setting,
+      shares_asked net n c.args.peak setting gs,
       greens,
     )

@@ -11,7 +11,7 @@ loop-turn-preserved c =
     let so_far = c.loop-turn.invariant in
     let inside = c.busiest-place.ensures.inside in
     record {
-      enough = enough_more c.args.asked.now gs p 1 inside so_far.enough;
+      enough = enough_more c.args.asked.now gs p c.steps-steps.ensures.asked so_far.enough inside 1;
       fills = omega (arith, sum_by-set (λ n. n) gs p (get_or gs p 0 + 1) 0 (omega (arith, so_far.enough.count, inside)), so_far.fills);
       best = best_more c.args.asked.now gs p c.steps-steps.ensures.asked so_far.enough inside
           c.busiest-place.ensures.greatest so_far.best;
