@@ -1,7 +1,7 @@
 -- The greens and needs of the definition are those by what the stages ask.
-use Rattle.std.proofs.Common.{◌≡◌, ℕ, ◌+◌, ◌-◌, ◌<◌, ◌≤◌, Bool, true, not, nat_eq, List, map, length, arith}
-use Rattle.std.proofs.Common.{sym, ◌∙◌, ap, get_or, inl, inr, [], ◌∷◌, ◌++◌}
-use Rattle.std.specs.List.{list_all, filter, range_with_len}
+use Rattle.std.proofs.Common.{◌≡◌, ℕ, ◌+◌, ◌-◌, ◌<◌, ◌≤◌, Bool, true, nat_eq, List, map, length, arith}
+use Rattle.std.proofs.Common.{sym, ◌∙◌, get_or, inl, inr, [], ◌∷◌, ◌++◌}
+use Rattle.std.specs.List.{range_with_len}
 use Rattle.std.proofs.lemmas.Bool.{cases_Bool}
 use Rattle.std.proofs.lemmas.Bool.Decides.{nat_tests}
 use Rattle.std.proofs.lemmas.List.FromFn.{fill_by_all, length-map-range_with_len, get_or-map-range_with_len, map-range_with_len_more}
@@ -9,14 +9,11 @@ use Rattle.transyt_parts.specs.Parts.{NodeValue}
 use Rattle.transyt_parts.specs.Plan.{stage_of}
 use Rattle.transyt_net.specs.Parts.{Network}
 use Rattle.transyt_equisat.specs.declared.fraction.Fraction.{Fraction}
-use Rattle.transyt_equisat.specs.declared.demand.Demand.{Demand}
-use Rattle.transyt_equisat.specs.Degrees.{is_above, counts_in, degree}
 use Rattle.transyt_equisat.specs.Sharing.{degree_of, degree_at, no_demand, asked_of, need_by_demand, green_by_demand, share_by_demand}
 use Rattle.transyt_equisat.specs.Balance.{first_from, first_green, least_greens, need_at, share_at, no_share}
 use Rattle.transyt_equisat.proofs.SettingLaws.{IsSetting}
 use Rattle.transyt_equisat.proofs.DemandLaws.{IsLower, stage_tested, not_above_lower, below_lower}
 use Rattle.transyt_equisat.proofs.SearchLaws.{first_same, first_least}
-use Rattle.transyt_equisat.proofs.PeakLaws.{demand_there}
 
 -- a list of one place more
 pub range_next : {A : Type 0} (f : ℕ → A) (n : ℕ) → map f (range_with_len 0 (n + 1)) ≡ map f (range_with_len 0 n) ++ f n ∷ []
@@ -54,14 +51,7 @@ module _ (net : Network) (n : NodeValue) (setting : IsSetting net n) {test : Fra
       ≡ first_from (λ e. test (degree_of net.frame.step_count (get_or (asked_of net n).demands k no_demand) e))
       (stage_of n.stages k).least (net.frame.step_count - (stage_of n.stages k).least)
   first_asked k inside =
-      let steps = net.frame.step_count in
-      first_same (λ e. list_all (λ l. test (degree steps l e)) (filter (counts_in n.number (k + 1)) net.links))
-      (λ e. test (degree_of steps (get_or (asked_of net n).demands k no_demand) e))
-      (stage_of n.stages k).least (steps - (stage_of n.stages k).least) (
-      λ e after.
-      stage_tested lower net n.number (k + 1) e (omega (arith, setting.least k inside)) setting.live
-      ∙ ap (λ (d : Demand). test (degree_of steps d e)) (sym (demand_there net n.number (length n.stages) k inside))
-      )
+      first_same _ _ (stage_of n.stages k).least _ (λ e after. stage_tested lower net n k e (omega (arith, setting.least k inside)) inside setting.live)
 
   -- where greens pass, the first that pass are no less than the least and no more than those
   pub first_parts : (e : ℕ → ℕ) → ArePassing test net n e → (k : ℕ) → k < length n.stages
@@ -70,8 +60,7 @@ module _ (net : Network) (n : NodeValue) (setting : IsSetting net n) {test : Fra
   first_parts e pass k inside =
       let (low, high, passes) = pass k inside in
       rw (get_or-map-range_with_len (first_green net n test) 0 (length n.stages) k k 0 inside (omega arith), first_asked k inside)
-      (first_least (λ e. test (degree_of net.frame.step_count (get_or (asked_of net n).demands k no_demand) e))
-      (stage_of n.stages k).least (net.frame.step_count - (stage_of n.stages k).least) (e k) low (omega arith) passes)
+      (first_least _ (stage_of n.stages k).least (net.frame.step_count - (stage_of n.stages k).least) (e k) low (omega arith) passes)
 
 module _ (net : Network) (n : NodeValue) (v : Fraction) (setting : IsSetting net n) where
   -- the need of a stage is that of what it asks
@@ -85,12 +74,9 @@ module _ (net : Network) (n : NodeValue) (v : Fraction) (setting : IsSetting net
   -- the least greens of the stages are those of what they ask
   pub greens_asked : map (green_by_demand (asked_of net n) v) (range_with_len 0 (length n.stages)) ≡ least_greens net n v
   greens_asked =
-      range_same 0 (green_by_demand (asked_of net n) v) (first_green net n (λ d. not (is_above d v))) (length n.stages)
-      (λ k below. sym (first_asked net n setting (not_above_lower v) k below))
+      range_same 0 _ _ _ (λ k below. sym (first_asked net n setting (not_above_lower v) k below))
 
   -- and so are their shares
   pub shares_asked : (gs : List ℕ) → map (share_by_demand (asked_of net n) v gs) (range_with_len 0 (length n.stages))
       ≡ map (share_at net n v gs) (range_with_len 0 (length n.stages))
-  shares_asked gs =
-      range_same no_share (share_by_demand (asked_of net n) v gs) (share_at net n v gs) (length n.stages)
-      (λ k below. rw (need_asked k below))
+  shares_asked gs = range_same no_share _ _ _ (λ k below. rw (need_asked k below))

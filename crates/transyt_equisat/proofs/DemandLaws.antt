@@ -1,16 +1,17 @@
 -- A bound on the degree of a stage's greatest demand bounds each of its counted links, since none asks for more.
-use Rattle.std.proofs.Common.{◌≡◌, ℕ, ◌*◌, ◌<◌, ◌≤◌, Bool, true, false, not, ◌&&◌, List, [], ◌∷◌, All, arith}
+use Rattle.std.proofs.Common.{◌≡◌, ℕ, ◌+◌, ◌*◌, ◌<◌, ◌≤◌, Bool, true, false, not, ◌&&◌, List, [], ◌∷◌, All, arith, length, get_or}
 use Rattle.std.proofs.Common.{◌∙◌, ap, inl, inr, ltb-true, ltb-false, lt-ltb}
 use Rattle.std.specs.List.{list_all, filter, fold}
 use Rattle.std.proofs.Math.Nat.{mul-le-mul_left, mul-pos}
 use Rattle.std.proofs.lemmas.Bool.{cases_Bool, not-true, true_from_ne_false}
 use Rattle.std.proofs.lemmas.List.Elements.{All-head, All-tail}
-use Rattle.transyt_parts.specs.Parts.{LinkValue}
+use Rattle.std.proofs.lemmas.List.FromFn.{get_or-map-range_with_len}
+use Rattle.transyt_parts.specs.Parts.{LinkValue, NodeValue}
 use Rattle.transyt_net.specs.Parts.{Network}
 use Rattle.transyt_equisat.specs.declared.fraction.Fraction.{Fraction}
 use Rattle.transyt_equisat.specs.declared.demand.Demand.{Demand}
 use Rattle.transyt_equisat.specs.Degrees.{is_above, counts_in, degree}
-use Rattle.transyt_equisat.specs.Sharing.{demand_of, degree_of, heavier, heavier_of, demand_in, no_demand}
+use Rattle.transyt_equisat.specs.Sharing.{demand_of, degree_of, heavier, heavier_of, demand_in, no_demand, asked_of}
 use Rattle.transyt_equisat.proofs.FractionLaws.{not_above, not_above-trans}
 
 -- a test that lesser fractions pass too, and what nothing asks of a green
@@ -56,14 +57,20 @@ all_tested {test} lower steps number stage e some (l ∷ ls) live d alive =
       ]
     ]
 
--- the counted links of a stage pass where the one that asks most does
-pub stage_tested : {test : Fraction → Bool} → IsLower test → (net : Network) (number stage e : ℕ) → 0 < e
-    → All (λ l. 0 < l.saturation) net.links
-    → list_all (λ l. test (degree net.frame.step_count l e)) (filter (counts_in number stage) net.links)
-    ≡ test (degree_of net.frame.step_count (demand_in net number stage) e)
-stage_tested lower net number stage e some live =
-    let all = all_tested lower net.frame.step_count number stage e some net.links live no_demand (omega arith) in
-    rw (lower.none net.frame.step_count e some) at all
+-- the demand of the stage at a place
+pub demand_there : (net : Network) (n : NodeValue) (k : ℕ) → k < length n.stages
+    → get_or (asked_of net n).demands k no_demand ≡ demand_in net n.number (k + 1)
+demand_there net n k inside =
+    get_or-map-range_with_len (λ k. demand_in net n.number (k + 1)) 0 (length n.stages) k k no_demand inside (omega arith)
+
+-- the counted links of a stage pass where its demand does
+pub stage_tested : {test : Fraction → Bool} → IsLower test → (net : Network) (n : NodeValue) (k e : ℕ) → 0 < e
+    → k < length n.stages → All (λ l. 0 < l.saturation) net.links
+    → list_all (λ l. test (degree net.frame.step_count l e)) (filter (counts_in n.number (k + 1)) net.links)
+    ≡ test (degree_of net.frame.step_count (get_or (asked_of net n).demands k no_demand) e)
+stage_tested lower net n k e some inside live =
+    let all = all_tested lower net.frame.step_count n.number (k + 1) e some net.links live no_demand (omega arith) in
+    rw (demand_there net n k inside) (rw (lower.none net.frame.step_count e some) at all)
 
 -- not to be above v is such a test
 pub not_above_lower : (v : Fraction) → IsLower (λ d. not (is_above d v))

@@ -1,7 +1,7 @@
 -- The greatest and the least of fractions.
-use Rattle.std.proofs.Common.{◌≡◌, ◌<◌, Bool, true, false, List, [], ◌∷◌, All, arith, length, if◌then◌else◌, inl, inr}
+use Rattle.std.proofs.Common.{◌≡◌, ◌<◌, Bool, true, false, List, [], ◌∷◌, All, arith, length, if◌then◌else◌}
 use Rattle.std.specs.List.{fold}
-use Rattle.std.proofs.lemmas.Bool.{cases_Bool, cond_both}
+use Rattle.std.proofs.lemmas.Bool.{cond_both}
 use Rattle.std.proofs.lemmas.List.Elements.{All-head, All-tail, All-nil, All-cons}
 use Rattle.transyt_equisat.specs.declared.fraction.Fraction.{Fraction}
 use Rattle.transyt_equisat.specs.Degrees.{is_above, greatest, nothing}
@@ -41,11 +41,7 @@ extreme_has over P (d ∷ ds) a pa all =
 -- neither is over the one chosen
 neither_over : (over : Fraction → Fraction → Bool) → IsOrder over → (a d : Fraction)
     → (over a (over_of over a d) ≡ false) × (over d (over_of over a d) ≡ false)
-neither_over over order a d =
-    elim (cases_Bool (over d a)) [
-      | inl is ↦ rw is (order.one_way d a is, order.self d)
-      | inr not_so ↦ rw not_so (order.self a, not_so)
-    ]
+neither_over over order a d = grind (arith, order.self a, order.self d, order.one_way d a)
 
 -- a positive base
 abbrev pub HasBase : Fraction → Type 0

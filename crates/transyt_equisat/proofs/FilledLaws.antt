@@ -17,9 +17,9 @@ use Rattle.transyt_equisat.specs.Peaks.{Fits, intergreens}
 use Rattle.transyt_equisat.specs.Balance.{first_more}
 use Rattle.transyt_equisat.proofs.SettingLaws.{IsSetting}
 use Rattle.transyt_equisat.proofs.FractionLaws.{degree_falls}
-use Rattle.transyt_equisat.proofs.DemandLaws.{IsLower}
+use Rattle.transyt_equisat.proofs.DemandLaws.{IsLower, demand_there}
 use Rattle.transyt_equisat.proofs.SharingLaws.{more_least}
-use Rattle.transyt_equisat.proofs.PeakLaws.{demand_there, StagesPass}
+use Rattle.transyt_equisat.proofs.PeakLaws.{StagesPass}
 use Rattle.transyt_equisat.proofs.AskedLaws.{first_greens, first_parts, first_count, ArePassing}
 
 -- greens with what is left of the cycle given to the first fill it
@@ -48,7 +48,7 @@ fold_live number stage (l ∷ ls) d live alive =
 pub demand_live : (net : Network) (n : NodeValue) (k : ℕ) → IsSetting net n → k < length n.stages
     → 0 < (get_or (demands_of net n.number (length n.stages)) k no_demand).saturation
 demand_live net n k setting inside =
-    subst (λ (d : Demand). 0 < d.saturation) (sym (demand_there net n.number (length n.stages) k inside))
+    subst (λ (d : Demand). 0 < d.saturation) (sym (demand_there net n k inside))
     (fold_live n.number (k + 1) net.links no_demand setting.live (omega arith))
 
 -- the first greens that pass a lower test: with what is left of the cycle for the first they fill it, and each stage

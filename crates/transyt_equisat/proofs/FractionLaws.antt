@@ -1,7 +1,7 @@
 -- Laws of fractions compared by cross-multiplication.
-use Rattle.std.proofs.Common.{◌≡◌, ℕ, ◌*◌, ◌<◌, ◌≤◌, Bool, true, false, arith, sym, refl}
+use Rattle.std.proofs.Common.{◌≡◌, ℕ, ◌*◌, ◌<◌, ◌≤◌, Bool, true, false, arith}
 use Rattle.std.proofs.Math.Nat.{mul-le-mul_left, le_of_mul-le-mul_right}
-use Rattle.std.proofs.lemmas.Bool.{ltb-true, ltb-false, le-ltb}
+use Rattle.std.proofs.lemmas.Bool.{cases_Bool, ltb-true, ltb-false, le-ltb}
 use Rattle.transyt_equisat.specs.declared.fraction.Fraction.{Fraction}
 use Rattle.transyt_equisat.specs.declared.demand.Demand.{Demand}
 use Rattle.transyt_equisat.specs.Degrees.{is_above, AtMost, IsSame}
@@ -42,9 +42,7 @@ degree_falls steps d e f more =
 
 -- a Bool that is false wherever another is, and the other way round
 both_ways : (a b : Bool) → (a ≡ false → b ≡ false) → (b ≡ false → a ≡ false) → a ≡ b
-both_ways true true ab ba = refl
-both_ways true false ab ba = ba refl
-both_ways false b ab ba = sym (ab refl)
+both_ways a b ab ba = grind (arith, cases_Bool a, cases_Bool b)
 
 module _ (v w d : Fraction) (same : IsSame v w) (v_base : 0 < v.base) (w_base : 0 < w.base) where
   -- a fraction above one of two equal ones is above the other

@@ -62,21 +62,18 @@ module _ (net : Network) (n : NodeValue) (v : Fraction) (setting : IsSetting net
       omega (arith, less, fits.fills)
 
   -- the greens of a least peak fill the cycle
-  greens_hold : Fits net.frame.step_count n.stages (greens_at net n v)
+  pub greens_hold : Fits net.frame.step_count n.stages (greens_at net n v)
       × ((k : ℕ) → k < length n.stages → not (is_above (degree_at (asked_of net n) (greens_at net n v) k) v) ≡ true)
   greens_hold =
       let (es, fits, under) = peak_is.reached in
       filled_passes net n setting (not_above_lower v) (λ k. get_or es k 0) (pass_under es fits under) least_room
 
-  pub greens_fit : Fits net.frame.step_count n.stages (greens_at net n v)
-  greens_fit = greens_hold.0
-
   -- their peak is the peak
   pub greens_peak : IsSame v (peak net n.number (greens_at net n v))
   greens_peak =
       let p : Fraction = peak net n.number (greens_at net n v) in
-      let down = at_most v p (peak_least (greens_at net n v) greens_fit) in
-      let up = at_most p v (peak_under net n setting (greens_at net n v) greens_fit v
+      let down = at_most v p (peak_least (greens_at net n v) greens_hold.0) in
+      let up = at_most p v (peak_under net n setting (greens_at net n v) greens_hold.0 v
       (λ k inside. not-true (is_above (degree_at (asked_of net n) (greens_at net n v) k) v) (greens_hold.1 k inside))) in
       omega arith
 
@@ -120,8 +117,8 @@ module _ (net : Network) (n : NodeValue) (v : Fraction) (setting : IsSetting net
           passes_at_first test net.links no_link inside,
         )
         | inr nowhere ↦ absurd (
-            let unders = links_pass net n setting (not_above_lower v) gs greens_fit greens_hold.1 in
-            none_below gs greens_fit above (
+            let unders = links_pass net n setting (not_above_lower v) gs greens_hold.0 greens_hold.1 in
+            none_below gs greens_hold.0 above (
             λ i d there. λ counts.
             let l : LinkValue = get_or net.links i d in
             let deg : Fraction = degree net.frame.step_count l (green_of gs l) in

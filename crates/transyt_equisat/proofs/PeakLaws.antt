@@ -4,24 +4,16 @@ use Rattle.std.proofs.Common.{sym, ◌∙◌, ap, arith, get_or, mul-pos, eq-eqb
 use Rattle.std.proofs.lemmas.Bool.{not-true, and_parts, and_from}
 use Rattle.std.specs.List.{filter}
 use Rattle.std.proofs.lemmas.List.Sums.{AllPass-from_list_all, list_all-from_AllPass}
-use Rattle.std.proofs.lemmas.List.FromFn.{get_or-map-range_with_len}
 use Rattle.transyt_parts.specs.Parts.{NodeValue, LinkValue}
 use Rattle.transyt_net.specs.Parts.{Network}
 use Rattle.transyt_equisat.specs.declared.fraction.Fraction.{Fraction}
-use Rattle.transyt_equisat.specs.declared.demand.Demand.{Demand}
 use Rattle.transyt_equisat.specs.Degrees.{is_above, nothing, is_counted, counts_in, degree, first_stage}
-use Rattle.transyt_equisat.specs.Sharing.{degree_of, demand_in, demands_of, no_demand, asked_of, degree_at, IsUnder}
+use Rattle.transyt_equisat.specs.Sharing.{asked_of, degree_at, IsUnder}
 use Rattle.transyt_equisat.specs.Peaks.{Fits, green_of, peak}
 use Rattle.transyt_equisat.proofs.SettingLaws.{IsSetting}
 use Rattle.transyt_equisat.proofs.DemandLaws.{IsLower, stage_tested, not_above_lower}
 use Rattle.transyt_equisat.proofs.ExtremeLaws.{HasBase, extreme_has, all_under}
 use Rattle.transyt_equisat.proofs.FilterLaws.{picked_each, each_picked, all_mapped, mapped_all}
-
--- the demand of the stage at a place
-pub demand_there : (net : Network) (number count k : ℕ) → k < count
-    → get_or (demands_of net number count) k no_demand ≡ demand_in net number (k + 1)
-demand_there net number count k inside =
-    get_or-map-range_with_len (λ k. demand_in net number (k + 1)) 0 count k k no_demand inside (omega arith)
 
 -- each counted link has a degree at these greens that passes a test
 abbrev pub LinksPass : (Fraction → Bool) → Network → NodeValue → List ℕ → Type 0
@@ -47,12 +39,9 @@ module _ (net : Network) (n : NodeValue) (setting : IsSetting net n) where
       let k : ℕ = first_stage l - 1 in
       let e : ℕ = get_or es k 0 in
       let inside : k < length n.stages = omega (arith, stage.0, stage.1) in
-      let asked : test (degree_of net.frame.step_count (demand_in net n.number (k + 1)) e) ≡ true =
-      ap (λ (d : Demand). test (degree_of net.frame.step_count d e)) (sym (demand_there net n.number (length n.stages) k inside))
-      ∙ pass k inside in
       picked_each (λ l. test (degree net.frame.step_count l e) ≡ true) (counts_in n.number (k + 1)) net.links
       (AllPass-from_list_all (λ l. test (degree net.frame.step_count l e)) (filter (counts_in n.number (k + 1)) net.links)
-      (stage_tested lower net n.number (k + 1) e (green_alive es fits k inside) setting.live ∙ asked))
+      (stage_tested lower net n k e (green_alive es fits k inside) inside setting.live ∙ pass k inside))
       i d there (and_from _ _ counts (eq-eqb (first_stage l) (k + 1) (omega (arith, stage.0))))
 
   -- and the other way round
@@ -66,8 +55,7 @@ module _ (net : Network) (n : NodeValue) (setting : IsSetting net n) where
       let both = and_parts (is_counted n.number l) (nat_eq (first_stage l) (k + 1)) counts in
       let place : first_stage l - 1 ≡ k = omega (arith, eqb-true _ _ both.1) in
       ap (λ j. test (degree net.frame.step_count l (get_or es j 0))) (sym place) ∙ pass i d there both.0 in
-      ap (λ (d : Demand). test (degree_of net.frame.step_count d e)) (demand_there net n.number (length n.stages) k inside)
-      ∙ sym (stage_tested lower net n.number (k + 1) e (green_alive es fits k inside) setting.live)
+      sym (stage_tested lower net n k e (green_alive es fits k inside) inside setting.live)
       ∙ list_all-from_AllPass (λ l. test (degree net.frame.step_count l e)) (filter (counts_in n.number (k + 1)) net.links)
       (each_picked (λ l. test (degree net.frame.step_count l e) ≡ true) (counts_in n.number (k + 1)) net.links each)
 

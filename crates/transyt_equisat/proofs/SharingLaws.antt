@@ -1,8 +1,8 @@
 -- Laws of sharing steps out one by one: each goes to the stage with the greatest degree.
 use Rattle.std.proofs.Common.{◌≡◌, ℕ, suc, ◌+◌, ◌*◌, ◌<◌, ◌≤◌, true, false, List, [], ◌∷◌, length, map, All, arith}
-use Rattle.std.proofs.Common.{ap, inl, inr, get_or, set, subst, sum, ltb-true}
+use Rattle.std.proofs.Common.{inl, inr, get_or, set, subst, sum, ltb-true}
 use Rattle.std.proofs.Math.Nat.{mul-pos, mul-le-mul_left}
-use Rattle.std.proofs.lemmas.Bool.{cases_Bool, cases_eq, cases_lt}
+use Rattle.std.proofs.lemmas.Bool.{cases_Bool, cases_lt}
 use Rattle.std.proofs.lemmas.Grind.{get_or-set_at}
 use Rattle.std.proofs.lemmas.List.{get_or-set_other, length-set}
 use Rattle.std.proofs.lemmas.List.Sums.{sum_by-cons, sum_by-set}
@@ -29,20 +29,12 @@ least_short a is =
 -- where a stage gets more steps, none has fewer
 pub more_least : (greens : List ℕ) (p x k : ℕ) → p < length greens
     → get_or greens k 0 ≤ get_or (set greens p (get_or greens p 0 + x)) k 0
-more_least greens p x k inside =
-    elim (cases_eq k p) [
-      | inl same ↦ omega (arith, get_or-set_at greens p k (get_or greens p 0 + x) 0 same inside, ap (λ n. get_or greens n 0) same)
-      | inr other ↦ omega (arith, get_or-set_other greens p k (get_or greens p 0 + x) 0 other)
-    ]
+more_least greens p x k inside = grind (arith, get_or-set_at greens p k (get_or greens p 0 + x) 0, get_or-set_other greens p k (get_or greens p 0 + x) 0)
 
 -- where no number is greater than the other list's at its place, and the one put at a place isn't either
 set_least : (xs ys : List ℕ) (p y k : ℕ) → p < length xs → y ≤ get_or ys p 0 → get_or xs k 0 ≤ get_or ys k 0
     → get_or (set xs p y) k 0 ≤ get_or ys k 0
-set_least xs ys p y k inside here there =
-    elim (cases_eq k p) [
-      | inl same ↦ omega (arith, get_or-set_at xs p k y 0 same inside, ap (λ n. get_or ys n 0) same)
-      | inr other ↦ omega (arith, get_or-set_other xs p k y 0 other)
-    ]
+set_least xs ys p y k inside here there = grind (arith, get_or-set_at xs p k y 0, get_or-set_other xs p k y 0)
 
 -- where no number is greater than the other list's at its place, the sum isn't either
 pub sum_pointwise : (xs ys : List ℕ) → length xs ≡ length ys

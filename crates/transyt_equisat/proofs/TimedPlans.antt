@@ -1,7 +1,6 @@
 -- Greens that fill the cycle are those of an allowed plan: its changes come one length after another.
 use Rattle.std.proofs.Common.{◌≡◌, ℕ, zero, suc, ◌+◌, ◌%◌, ◌<◌, ◌≤◌, List, map, length, sum, get_or}
-use Rattle.std.proofs.Common.{sym, ◌∙◌, ap, arith, inl, inr, take, ◌==◌}
-use Rattle.std.proofs.lemmas.Bool.{cases_Bool}
+use Rattle.std.proofs.Common.{sym, ◌∙◌, ap, arith, take}
 use Rattle.std.proofs.lemmas.Bool.Decides.{nat_tests}
 use Rattle.std.proofs.lemmas.List.{take_all}
 use Rattle.std.proofs.lemmas.List.Sums.{sum_by_more}
@@ -52,13 +51,7 @@ change_round steps stages gs fits first =
 pub change_after : (steps : ℕ) (stages : List Stage) (gs : List ℕ) (k : ℕ) → Fits steps stages gs
     → (stage_of stages 0).change < steps → k < length stages
     → change_at steps stages gs (place_after (length stages) k) ≡ change_at steps stages gs (k + 1)
-change_after steps stages gs k fits first inside =
-    elim (cases_Bool (k + 1 == length stages)) [
-      | inl last ↦
-          let same : k + 1 ≡ length stages = grind (arith, nat_tests, last) in
-          rw (last, same) (sym (change_round steps stages gs fits first))
-      | inr before ↦ rw before
-    ]
+change_after steps stages gs k fits first inside = grind (arith, nat_tests, change_round steps stages gs fits first)
 
 -- stages whose changes are those of greens
 pub record AreTimed (steps : ℕ) (stages : List Stage) (gs : List ℕ) (plan : List Stage) : Type 0 where

@@ -1,5 +1,5 @@
 -- A worked plan, and what worked answers are not worth.
-use Rattle.std.proofs.Common.{◌≡◌, ◌≤◌, ◌+◌, ℕ, List, [], ◌∷◌, All, refl, arith, ap, ◌∙◌, sym, subst}
+use Rattle.std.proofs.Common.{◌≡◌, ◌≤◌, ◌+◌, ℕ, List, [], ◌∷◌, All, refl, arith, sym, subst}
 use Rattle.std.proofs.lemmas.List.Elements.{All-from_recursion}
 use Rattle.std.proofs.lemmas.List.Sums.{sum_by-cons}
 use Rattle.transyt_net.specs.Parts.{node_of}
@@ -20,13 +20,12 @@ tight_greens : (es : List ℕ) → Fits 10 tight_node.stages es → es ≡ 4 ∷
 tight_greens [] f = absurd (omega (arith, f.count))
 tight_greens (a ∷ []) f = absurd (omega (arith, f.count))
 tight_greens (a ∷ b ∷ []) f =
-    let sums = f.fills in
     let first : 4 ≤ a = f.least 0 (omega arith) in
     let second : 3 ≤ b = f.least 1 (omega arith) in
-    let all : a + b + 3 ≡ 10 = omega (arith, sums, sum_by-cons (λ n. n) a (b ∷ []), sum_by-cons (λ n. n) b []) in
-    let four : a ≡ 4 = omega (arith, first, second, all) in
-    let three : b ≡ 3 = omega (arith, first, second, all) in
-    ap (λ n. n ∷ b ∷ []) four ∙ ap (λ n. 4 ∷ n ∷ []) three
+    let all : a + b + 3 ≡ 10 = omega (arith, f.fills, sum_by-cons (λ n. n) a (b ∷ []), sum_by-cons (λ n. n) b []) in
+    let four : a ≡ 4 = omega arith in
+    let three : b ≡ 3 = omega arith in
+    cc
 tight_greens (a ∷ b ∷ c ∷ es) f = absurd (omega (arith, f.count))
 
 -- the answer for that node is worth what is said

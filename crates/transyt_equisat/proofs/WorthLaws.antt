@@ -1,6 +1,6 @@
 -- No allowed plan has a lower peak than the balance of a node, and any least peak gives the same answer.
-use Rattle.std.proofs.Common.{◌≡◌, ℕ, ◌*◌, ◌<◌, List, map, length, sum}
-use Rattle.std.proofs.Common.{sym, ◌∙◌, ap, refl, arith, get_or, inl, inr, mul-pos, eq-zero-or-pos}
+use Rattle.std.proofs.Common.{◌≡◌, ℕ, ◌<◌, List, map, length, sum}
+use Rattle.std.proofs.Common.{sym, ◌∙◌, ap, refl, arith, get_or, mul-pos}
 use Rattle.std.specs.List.{range_with_len}
 use Rattle.std.proofs.lemmas.List.{length-map, get_or-map}
 use Rattle.std.proofs.lemmas.Simd.{map-map}
@@ -24,7 +24,7 @@ use Rattle.transyt_equisat.proofs.TimedPlans.{AreTimed, timed_greens, timed_allo
 use Rattle.transyt_equisat.proofs.LeastLaws.{least_is_least, least_same}
 use Rattle.transyt_equisat.proofs.AlikeLaws.{one_answer}
 use Rattle.transyt_equisat.proofs.SettingLaws.{IsSetting, setting_of}
-use Rattle.transyt_equisat.proofs.GreensLaws.{greens_fit, greens_peak, peak_least, told, needs_exceed}
+use Rattle.transyt_equisat.proofs.GreensLaws.{greens_hold, greens_peak, peak_least, told, needs_exceed}
 
 -- the shares of the answer
 abbrev shares : Network → NodeValue → Fraction → List Share
@@ -51,11 +51,7 @@ timed_same stages hs =
     (length-map stages bare_stage) (λ k inside. get_or-map bare_stage stages k no_stage no_stage inside))
 
 top_above : (a b : Fraction) → IsSame a b → 0 < b.base → 0 < a.top → 0 < b.top
-top_above a b same base above =
-    elim (eq-zero-or-pos b.top) [
-      | inl none ↦ absurd (omega (arith, mul-pos above base, same, ap (λ n. n * a.base) none))
-      | inr some ↦ some
-    ]
+top_above a b same base above = grind (arith, mul-pos above base)
 
 -- the answer for a least peak is worth what is said
 pub balanced_at : (net : Network) (n : NodeValue) (v : Fraction) → IsSetting net n
@@ -65,7 +61,7 @@ balanced_at net n v setting peak_is =
     let steps = net.frame.step_count in
     let gs : List ℕ = greens_at net n v in
     let plan : List Stage = timed n.stages (shares net n v) in
-    let fits = greens_fit net n v setting peak_is in
+    let fits = (greens_hold net n v setting peak_is).0 in
     let is : AreTimed steps n.stages gs plan = are_timed net n v in
     let greens = timed_greens steps n.stages gs plan is fits setting.stages.0 setting.change setting.least in
     let top : Fraction = peak_told (balance_at net n v) in
