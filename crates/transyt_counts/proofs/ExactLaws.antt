@@ -26,8 +26,7 @@ use Rattle.transyt_counts.proofs.FlowLaws.{edits_set}
 -- an edit of a key sets that key
 sets_by : (j : Key) (link : ℕ) (o : Option ℕ) (flow : ℕ)
     → sets j (edit_of (record { link = link; feeder = o }) flow) ≡ same_key j (record { link = link; feeder = o })
-sets_by j link None flow = refl
-sets_by j link (Some f) flow = refl
+sets_by j link o flow = grind arith
 
 -- one where it holds
 abbrev tick : Bool → ℕ

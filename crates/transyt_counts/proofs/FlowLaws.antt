@@ -1,11 +1,12 @@
 -- The edits of keys, one after another, set just their flows.
 use Rattle.std.proofs.Common.{◌≡◌, ℕ, ◌≤◌, true, false, nat_eq, List, [], ◌∷◌, map, All, Option, Some, None}
 use Rattle.std.proofs.Common.{refl, sym, ◌∙◌, ap, arith, get_or}
-use Rattle.std.specs.List.{list_any, fold}
+use Rattle.std.specs.List.{fold}
 use Rattle.std.specs.Option.{option_eq}
-use Rattle.std.proofs.lemmas.Bool.{and_from, and_left, and_right, cond_both}
+use Rattle.std.proofs.lemmas.Bool.{and_from, and_left, and_right}
 use Rattle.std.proofs.lemmas.Bool.Decides.{nat_tests}
 use Rattle.std.proofs.lemmas.List.Elements.{All-head, All-tail, All-weaker}
+use Rattle.std.proofs.lemmas.List.Folds.{map_fixed}
 use Rattle.transyt_parts.specs.declared.link.Feed.{Feed}
 use Rattle.transyt_parts.specs.Parts.{LinkValue}
 use Rattle.transyt_parts.specs.Valid.{all_differ, link_number, feeders}
@@ -32,9 +33,7 @@ flow_other k ks flow j before other = rw other
 -- and of that key, once it was set
 flow_here : (k : Key) (ks : List Key) (flow : Key → ℕ) (j : Key) (before : ℕ) → same_key j k ≡ true
     → set_flow ks flow j (flow k) ≡ set_flow (k ∷ ks) flow j before
-flow_here k ks flow j before same =
-    rw same (cond_both (list_any (same_key j) ks) (flow j) (flow k) (λ x. x ≡ flow j) (λ there. refl)
-    (λ new. ap flow (sym (key_same j k same))))
+flow_here k ks flow j before same = grind (arith, key_same j k same)
 
 -- a feed of another key
 feed_other : (k : Key) (ks : List Key) (flow : Key → ℕ) (link : ℕ) (f : Feed) → same_key (part_key link f.feeder) k ≡ false
@@ -108,13 +107,11 @@ set_one net link (Some feeder) ks flow valid =
     )
 
 -- the flows of no key
-feeds_none : (flow : Key → ℕ) (link : ℕ) (fs : List Feed) → map (set_feed [] flow link) fs ≡ fs
-feeds_none flow link [] = refl
-feeds_none flow link (f ∷ fs) = rw (feeds_none flow link fs)
-
 links_none : (flow : Key → ℕ) (ls : List LinkValue) → map (set_link [] flow) ls ≡ ls
-links_none flow [] = refl
-links_none flow (l ∷ ls) = rw (feeds_none flow l.number l.feeds, links_none flow ls)
+links_none flow ls =
+    map_fixed (set_link [] flow) ls (
+    λ i d below. let l : LinkValue = get_or ls i d in
+    rw (map_fixed (set_feed [] flow l.number) l.feeds (λ j e inside. refl)))
 
 -- the edits of keys without a code, to flows in their range: each is allowed, and together they set those flows
 pub edits_set : (ks : List Key) (flow : Key → ℕ) (net : Network) → IsValid net

@@ -1,10 +1,9 @@
 -- Keys: equality by test, and lists of keys of which none stands twice.
-use Rattle.std.proofs.Common.{◌≡◌, ℕ, Bool, true, false, cond, not, ◌&&◌, ◌||◌, nat_eq, List, [], ◌∷◌, ◌++◌, map, Option, Some, None, refl, sym, ◌∙◌, ap, arith}
+use Rattle.std.proofs.Common.{◌≡◌, Bool, true, false, cond, not, ◌&&◌, List, [], ◌∷◌, ◌++◌, map, Some, None, refl, sym, ◌∙◌, ap, arith}
 use Rattle.std.proofs.Common.{inl, inr, if◌then◌else◌}
 use Rattle.std.specs.List.{list_any, fold}
 use Rattle.std.specs.Map.{lookup}
-use Rattle.std.specs.Option.{option_eq}
-use Rattle.std.proofs.lemmas.Bool.{cases_Bool, not-true, and_parts, and_from, or_parts, or_from, or_left, or_right, cond_both, false_from_ne_true, eqb-true}
+use Rattle.std.proofs.lemmas.Bool.{cases_Bool, not-true, and_parts, or_left, or_right, false_from_ne_true}
 use Rattle.std.proofs.lemmas.Bool.Decides.{nat_tests}
 use Rattle.std.proofs.lemmas.List.Folds.{list_any-append}
 use Rattle.indexmap.specs.IndexMap.{insert_entry}
@@ -14,34 +13,17 @@ use Rattle.transyt_counts.specs.declared.tally.Totals.{Totals}
 use Rattle.transyt_counts.specs.Rows.{same_key}
 use Rattle.transyt_counts.specs.Counts.{with_key, keys_of}
 
--- the same feeder, or none
-feeder_same : (a b : Option ℕ) → option_eq nat_eq a b ≡ true → a ≡ b
-feeder_same None None h = refl
-feeder_same (Some f) (Some g) h = ap (λ n. Some n) (grind (arith, nat_tests, h))
-feeder_same a b h = absurd (cc)
-
-feeder_self : (a : Option ℕ) → option_eq nat_eq a a ≡ true
-feeder_self None = refl
-feeder_self (Some f) = grind (arith, nat_tests)
-
 -- keys that pass the test are equal
 pub key_same : (a b : Key) → same_key a b ≡ true → a ≡ b
-key_same a b h =
-    let both = and_parts (nat_eq a.link b.link) (option_eq nat_eq a.feeder b.feeder) h in
-    let links : a.link ≡ b.link = eqb-true _ _ both.0 in
-    let made : ℕ → Option ℕ → Key = λ (l : ℕ) (f : Option ℕ). record { link = l; feeder = f } in
-    ap (λ l. made l a.feeder) links ∙ ap (made b.link) (feeder_same a.feeder b.feeder both.1)
+key_same a b h = grind (arith, nat_tests, h)
 
 -- a key passes its own test
 pub key_self : (a : Key) → same_key a a ≡ true
-key_self a = and_from (nat_eq a.link a.link) (option_eq nat_eq a.feeder a.feeder) (grind (arith, nat_tests)) (feeder_self a.feeder)
+key_self a = grind (arith, nat_tests)
 
 -- the test goes both ways
 pub key_swapped : (a b : Key) → same_key a b ≡ false → same_key b a ≡ false
-key_swapped a b h =
-    false_from_ne_true (same_key b a) (
-    λ same. let is : same_key a b ≡ true = ap (same_key a) (key_same b a same) ∙ key_self a in cc (is, h)
-    )
+key_swapped a b h = grind (arith, nat_tests, h)
 
 -- no key stands twice
 abbrev pub keys_differ : List Key → Bool
@@ -58,18 +40,11 @@ differ_parts k ks h =
 differ_push : (ks : List Key) (k : Key) → keys_differ ks ≡ true → list_any (same_key k) ks ≡ false → keys_differ (ks ++ k ∷ []) ≡ true
 differ_push [] k differ new = refl
 differ_push (j ∷ js) k differ new =
-    let parts = differ_parts j js differ in
-    let other = or_parts (same_key k j) (list_any (same_key k) js) new in
-    let none : list_any (same_key j) (js ++ k ∷ []) ≡ false =
-    list_any-append (same_key j) js (k ∷ [])
-    ∙ or_from (list_any (same_key j) js) (same_key j k || false) parts.0 (or_from (same_key j k) false (key_swapped k j other.0) refl) in
-    and_from (not (list_any (same_key j) (js ++ k ∷ []))) (keys_differ (js ++ k ∷ [])) (ap not none) (differ_push js k parts.1 other.1)
+    grind (arith, nat_tests, list_any-append (same_key j) js (k ∷ []), differ_push js k, key_swapped k j)
 
 -- a key more, where it is new: they still differ
 pub differ_with : (ks : List Key) (k : Key) → keys_differ ks ≡ true → keys_differ (with_key ks k) ≡ true
-differ_with ks k differ =
-    cond_both (list_any (same_key k) ks) ks (ks ++ k ∷ []) (λ xs. keys_differ xs ≡ true) (λ there. differ)
-    (λ new. differ_push ks k differ new)
+differ_with ks k differ = grind (arith, differ_push ks k differ)
 
 -- the keys of rows differ
 pub fold_differ : (cs : List Count) (ks : List Key) → keys_differ ks ≡ true → keys_differ (fold (λ keys c. with_key keys c.key) ks cs) ≡ true
@@ -82,15 +57,11 @@ keys_of_differ cs = fold_differ cs [] refl
 
 -- a key that is there stays
 pub any_with : (ks : List Key) (k j : Key) → list_any (same_key j) ks ≡ true → list_any (same_key j) (with_key ks k) ≡ true
-any_with ks k j there =
-    cond_both (list_any (same_key k) ks) ks (ks ++ k ∷ []) (λ xs. list_any (same_key j) xs ≡ true) (λ known. there)
-    (λ new. list_any-append (same_key j) ks (k ∷ []) ∙ or_left _ _ there)
+any_with ks k j there = grind (arith, list_any-append (same_key j) ks (k ∷ []))
 
 -- and the new one is there
 pub any_itself : (ks : List Key) (k : Key) → list_any (same_key k) (with_key ks k) ≡ true
-any_itself ks k =
-    cond_both (list_any (same_key k) ks) ks (ks ++ k ∷ []) (λ xs. list_any (same_key k) xs ≡ true) (λ known. known)
-    (λ new. list_any-append (same_key k) ks (k ∷ []) ∙ or_right _ _ (or_left _ _ (key_self k)))
+any_itself ks k = grind (arith, list_any-append (same_key k) ks (k ∷ []), key_self k)
 
 -- functions that agree at the keys that are there
 pub map_same : {A : Type 0} (f g : Key → A) (ks : List Key) → ((j : Key) → list_any (same_key j) ks ≡ true → f j ≡ g j) → map f ks ≡ map g ks

@@ -1,14 +1,12 @@
 -- A row by its fields one by one, and what a row without a code keeps to.
-use Rattle.std.proofs.Common.{◌≡◌, ℕ, suc, ◌<◌, ◌≤◌, arith, not, ◌&&◌, nat_le, List, [], ◌∷◌, Option, Some, None, Ok, Err, refl, sym, ◌∙◌, ap}
-use Rattle.std.proofs.lemmas.Bool.{and_parts, leb-true, not-false}
+use Rattle.std.proofs.Common.{◌≡◌, ℕ, suc, ◌<◌, ◌≤◌, arith, List, [], ◌∷◌, Option, Some, None, Ok, Err, refl, sym, ◌∙◌, ap}
+use Rattle.std.proofs.lemmas.Bool.Decides.{nat_tests}
 use Rattle.std.proofs.lemmas.Option.{same_Some}
 use Rattle.std.specs.Option.{option_or}
 use Rattle.csv.specs.Records.{field_at}
 use Rattle.transyt_syntax.specs.declared.code.Code.{Code}
 use Rattle.transyt_syntax.specs.declared.code.Code.TheVariants as code
-use Rattle.transyt_parts.specs.Valid.{within}
 use Rattle.transyt_net.specs.Parts.{Network}
-use Rattle.transyt_net.proofs.WriteLaws.{no_fault, in_range}
 use Rattle.transyt_counts.specs.declared.row.Count.{Count}
 use Rattle.transyt_syntax.specs.Syntax.{unless}
 use Rattle.transyt_counts.specs.Rows.{count_of, count_code, key_code, judged, read_row}
@@ -58,16 +56,11 @@ judged_ok net None d h = absurd (cc)
 judged_ok net (Some c) d h = let both = unless_ok (count_code net c) c d h in ap (count_code net) (sym both.1) ∙ both.0
 
 good_count : (net : Network) (c : Count) → count_code net c ≡ None → IsGood net c
-good_count net c none =
-    let both = first_none (key_code net c.key) _ none in
-    let fits = not-false (nat_le c.vehicles 999999 && within 1 1440 c.minutes)
-    (no_fault (not (nat_le c.vehicles 999999 && within 1 1440 c.minutes)) code.Range None both.1).0 in
-    let parts = and_parts (nat_le c.vehicles 999999) (within 1 1440 c.minutes) fits in
-    record {
-      vehicles = leb-true c.vehicles 999999 parts.0;
-      minutes = in_range 1 1440 c.minutes parts.1;
-      key = both.0;
-    }
+good_count net c none = record {
+  vehicles = grind (arith, nat_tests, none);
+  minutes = (grind (arith, nat_tests, none), grind (arith, nat_tests, none));
+  key = grind (arith, nat_tests, none);
+}
 
 -- a row without a code keeps to its bounds
 pub good_row : (net : Network) (row : ℕ) (fs : List (List ℕ)) (c : Count) → read_row net row fs ≡ Ok c → IsGood net c

@@ -60,10 +60,7 @@ none_there (c ∷ cs) ks k none =
     ]
 
 first_totals : (c : Count) → more_totals c None ≡ more_totals c (Some (record { vehicles = 0; minutes = 0; last = 0 }))
-first_totals c =
-    let v : 0 + c.vehicles ≡ c.vehicles = omega arith in
-    let m : 0 + c.minutes ≡ c.minutes = omega arith in
-    rw (v, m)
+first_totals c = grind arith
 
 -- the totals of the key of a row more
 totals_new : (cs : List Count) (c : Count)

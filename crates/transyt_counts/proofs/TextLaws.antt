@@ -1,5 +1,5 @@
 -- The records of a text as a list: those that were reached, and then the rest.
-use Rattle.std.proofs.Common.{◌≡◌, ℕ, zero, suc, ◌+◌, ◌-◌, ◌<◌, ◌≤◌, ◌==◌, ◌&&◌, Bool, true, false, cond, List, [], ◌∷◌, ◌++◌, Some, None, length, refl, sym, ◌∙◌, ap}
+use Rattle.std.proofs.Common.{◌≡◌, ℕ, zero, suc, ◌+◌, ◌-◌, ◌<◌, ◌≤◌, true, false, List, [], ◌∷◌, ◌++◌, Some, None, length, refl, sym, ◌∙◌, ap}
 use Rattle.std.proofs.Common.{arith, inl, inr}
 use Rattle.std.proofs.lemmas.Bool.{cases_Bool}
 use Rattle.std.proofs.lemmas.Option.{same_Some, cond_some}
@@ -7,56 +7,15 @@ use Rattle.csv.specs.declared.parser.Config.{Config}
 use Rattle.csv.specs.declared.parser.State.{State}
 use Rattle.csv.specs.declared.parser.State.TheVariants as st
 use Rattle.csv.specs.declared.parser.Action.{Action}
-use Rattle.csv.specs.declared.parser.Action.TheVariants as act
-use Rattle.csv.specs.declared.parser.Terminator.{Terminator}
-use Rattle.csv.specs.declared.parser.Terminator.TheVariants as term
-use Rattle.csv.specs.Machine.{Read, next_record, step, in_field, start_field, start_record, is_end, ends_at_end, ends_with, after_end, is_byte, fields_after, field_after}
+use Rattle.csv.specs.Machine.{Read, next_record, step, is_end, ends_at_end, fields_after, field_after}
 use Rattle.csv.specs.Reading.{records, records_from, records_next, Reached}
 
 -- a step that ends a record leaves a state at which a text may end
 abbrev Quiet : State × Action → Type 0
 Quiet p = is_end p.1 ≡ true → ends_at_end p.0 ≡ false
 
-chosen : (b : Bool) (x y : State × Action) → Quiet x → Quiet y → Quiet (cond b x y)
-chosen true x y px py = px
-chosen false x y px py = py
-
-after_quiet : (t : Terminator) (c : ℕ) → ends_at_end (after_end t c) ≡ false
-after_quiet term.CRLF c = by_cases (c == 13)
-  where
-    by_cases : (b : Bool) → ends_at_end (cond b st.AfterCr st.StartRecord) ≡ false
-    by_cases true = refl
-    by_cases false = refl
-after_quiet (term.Any t) c = refl
-
-in_field_quiet : (cfg : Config) (c : ℕ) → Quiet (in_field cfg c)
-in_field_quiet cfg c =
-    chosen (c == cfg.delimiter) (st.StartField, act.EndField) _ (λ e. absurd (cc e))
-    (chosen (ends_with cfg.terminator c) (after_end cfg.terminator c, act.EndRecord) (st.InField, act.Copy)
-    (λ e. after_quiet cfg.terminator c) (λ e. absurd (cc e)))
-
-start_field_quiet : (cfg : Config) (c : ℕ) → Quiet (start_field cfg c)
-start_field_quiet cfg c = chosen (cfg.quoting && (c == cfg.quote)) (st.InQuoted, act.Skip) (in_field cfg c) (λ e. absurd (cc e)) (in_field_quiet cfg c)
-
-start_record_quiet : (cfg : Config) (c : ℕ) → Quiet (start_record cfg c)
-start_record_quiet cfg c =
-    chosen (ends_with cfg.terminator c) (st.StartRecord, act.Skip) _ (λ e. absurd (cc e))
-    (chosen (is_byte cfg.comment c) (st.InComment, act.Skip) (start_field cfg c) (λ e. absurd (cc e)) (start_field_quiet cfg c))
-
 step_quiet : (cfg : Config) (s : State) (c : ℕ) → Quiet (step cfg s c)
-step_quiet cfg st.StartRecord c = start_record_quiet cfg c
-step_quiet cfg st.StartField c = start_field_quiet cfg c
-step_quiet cfg st.InField c = in_field_quiet cfg c
-step_quiet cfg st.InQuoted c =
-    chosen (cfg.quoting && (c == cfg.quote)) (st.AfterQuote, act.Skip) _ (λ e. absurd (cc e))
-    (chosen (cfg.quoting && is_byte cfg.escape c) (st.InEscape, act.Skip) (st.InQuoted, act.Copy) (λ e. absurd (cc e)) (λ e. absurd (cc e)))
-step_quiet cfg st.InEscape c = λ e. absurd (cc e)
-step_quiet cfg st.AfterQuote c =
-    chosen (cfg.quoting && cfg.double_quote && (c == cfg.quote)) (st.InQuoted, act.Copy) (in_field cfg c) (λ e. absurd (cc e)) (in_field_quiet cfg c)
-step_quiet cfg st.InComment c =
-    chosen (c == 10) (st.StartRecord, act.Skip) (st.InComment, act.Skip) (λ e. absurd (cc e)) (λ e. absurd (cc e))
-step_quiet cfg st.AfterCr c =
-    chosen (c == 10) (st.StartRecord, act.Skip) (start_record cfg c) (λ e. absurd (cc e)) (start_record_quiet cfg c)
+step_quiet cfg s c = grind arith
 
 -- a record leaves a state at which the text may end, and no more of the text than there was; from such a state it takes
 -- a byte at least
