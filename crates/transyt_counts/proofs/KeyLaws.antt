@@ -3,7 +3,7 @@ use Rattle.std.proofs.Common.{◌≡◌, Bool, true, false, cond, not, ◌&&◌,
 use Rattle.std.proofs.Common.{inl, inr, if◌then◌else◌}
 use Rattle.std.specs.List.{list_any, fold}
 use Rattle.std.specs.Map.{lookup}
-use Rattle.std.proofs.lemmas.Bool.{cases_Bool, not-true, and_parts, or_left, or_right, false_from_ne_true}
+use Rattle.std.proofs.lemmas.Bool.{cases_Bool, or_left, or_right, false_from_ne_true}
 use Rattle.std.proofs.lemmas.Bool.Decides.{nat_tests}
 use Rattle.std.proofs.lemmas.List.Folds.{list_any-append}
 use Rattle.indexmap.specs.IndexMap.{insert_entry}
@@ -32,9 +32,7 @@ keys_differ (k ∷ ks) = not (list_any (same_key k) ks) && keys_differ ks
 
 -- the first key stands nowhere else, and the others differ
 pub differ_parts : (k : Key) (ks : List Key) → keys_differ (k ∷ ks) ≡ true → (list_any (same_key k) ks ≡ false) × (keys_differ ks ≡ true)
-differ_parts k ks h =
-    let both = and_parts (not (list_any (same_key k) ks)) (keys_differ ks) h in
-    (not-true (list_any (same_key k) ks) both.0, both.1)
+differ_parts k ks h = grind (arith, h)
 
 -- a key that isn't there yet goes last
 differ_push : (ks : List Key) (k : Key) → keys_differ ks ≡ true → list_any (same_key k) ks ≡ false → keys_differ (ks ++ k ∷ []) ≡ true
@@ -70,8 +68,7 @@ map_same f g (k ∷ ks) agree =
     rw (agree k (or_left _ _ (key_self k)), map_same f g ks (λ j there. agree j (or_right _ _ there)))
 
 cond_front : (b : Bool) (j : Key) (js : List Key) (k : Key) → cond b (j ∷ js) ((j ∷ js) ++ k ∷ []) ≡ j ∷ cond b js (js ++ k ∷ [])
-cond_front true j js k = refl
-cond_front false j js k = refl
+cond_front b j js k = grind arith
 
 -- an entry written over a list of keys with their values
 pub insert_over : (f g : Key → Totals) (k : Key) (v : Totals) (ks : List Key) → keys_differ ks ≡ true

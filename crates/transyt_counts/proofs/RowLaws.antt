@@ -1,14 +1,11 @@
 -- A row by its fields one by one, and what a row without a code keeps to.
-use Rattle.std.proofs.Common.{◌≡◌, ℕ, suc, ◌<◌, ◌≤◌, arith, List, [], ◌∷◌, Option, Some, None, Ok, Err, refl, sym, ◌∙◌, ap}
+use Rattle.std.proofs.Common.{◌≡◌, ℕ, suc, ◌<◌, ◌≤◌, arith, List, [], ◌∷◌, Option, Some, None, Ok, Err, refl}
 use Rattle.std.proofs.lemmas.Bool.Decides.{nat_tests}
 use Rattle.std.proofs.lemmas.Option.{same_Some}
-use Rattle.std.specs.Option.{option_or}
 use Rattle.csv.specs.Records.{field_at}
-use Rattle.transyt_syntax.specs.declared.code.Code.{Code}
 use Rattle.transyt_syntax.specs.declared.code.Code.TheVariants as code
 use Rattle.transyt_net.specs.Parts.{Network}
 use Rattle.transyt_counts.specs.declared.row.Count.{Count}
-use Rattle.transyt_syntax.specs.Syntax.{unless}
 use Rattle.transyt_counts.specs.Rows.{count_of, count_code, key_code, judged, read_row}
 
 -- where one of the first four fields is wanting a row hasn't four
@@ -43,17 +40,8 @@ pub record IsGood (net : Network) (c : Count) : Type 0 where
   pub minutes : (1 ≤ c.minutes) × (c.minutes ≤ 1440)
   pub key : key_code net c.key ≡ None
 
-first_none : (a b : Option Code) → option_or a b ≡ None → (a ≡ None) × (b ≡ None)
-first_none None b h = (refl, h)
-first_none (Some code) b h = absurd (cc)
-
-unless_ok : (o : Option Code) (c d : Count) → unless o c ≡ Ok d → (o ≡ None) × (c ≡ d)
-unless_ok None c d h = (refl, cc)
-unless_ok (Some code) c d h = absurd (cc)
-
 judged_ok : (net : Network) (o : Option Count) (d : Count) → judged net o ≡ Ok d → count_code net d ≡ None
-judged_ok net None d h = absurd (cc)
-judged_ok net (Some c) d h = let both = unless_ok (count_code net c) c d h in ap (count_code net) (sym both.1) ∙ both.0
+judged_ok net o d h = grind (arith, h)
 
 good_count : (net : Network) (c : Count) → count_code net c ≡ None → IsGood net c
 good_count net c none = record {

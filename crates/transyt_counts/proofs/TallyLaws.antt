@@ -110,14 +110,7 @@ pub record AreFew (n : ℕ) (t : Totals) : Type 0 where
 -- totals of a row more
 totals_few : (net : Network) (n : ℕ) (c : Count) (o : Option Totals) → IsGood net c → IfSome o (AreFew n)
     → AreFew (n + 1) (more_totals c o)
-totals_few net n c None good before = record {
-  vehicles = omega (arith, good.vehicles);
-  minutes = (omega (arith, good.minutes.0), omega (arith, good.minutes.1));
-}
-totals_few net n c (Some t) good before = record {
-  vehicles = omega (arith, good.vehicles, before.vehicles);
-  minutes = (omega (arith, good.minutes.0), omega (arith, good.minutes.1, before.minutes.1));
-}
+totals_few net n c o good before = grind (arith, good, before)
 
 -- the entries with a row more
 pub entries_few : (net : Network) (n : ℕ) (c : Count) (es : List (Key × Totals)) → IsGood net c → All (λ e. AreFew n e.1) es
