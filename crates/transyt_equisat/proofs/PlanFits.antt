@@ -42,7 +42,8 @@ pub lengths_sum : (steps : ℕ) (plan : List Stage)
     → ((k : ℕ) → k < length plan → (stage_of plan k).intergreen ≤ length_at steps plan k)
     → sum (greens_of steps plan) + intergreens plan ≡ sum (stage_lengths steps plan)
 lengths_sum steps plan room =
-    ap (λ ss. sum (greens_of steps plan) + intergreens ss) (sym (take_all (length plan) plan (omega arith))) ∙ sum_parts steps plan (length plan) (omega arith) room
+    ap (λ ss. sum (greens_of steps plan) + intergreens ss) (sym (take_all (length plan) plan (omega arith)))
+    ∙ sum_parts steps plan (length plan) (omega arith) room
 
 -- stages that differ at most in their changes have the same intergreens
 pub same_gaps : (plan stages : List Stage) → map bare_stage plan ≡ map bare_stage stages → intergreens plan ≡ intergreens stages

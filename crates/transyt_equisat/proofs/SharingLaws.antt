@@ -1,8 +1,8 @@
 -- Laws of sharing steps out one by one: each goes to the stage with the greatest degree.
 use Rattle.std.proofs.Common.{◌≡◌, ℕ, suc, ◌+◌, ◌*◌, ◌<◌, ◌≤◌, true, false, List, [], ◌∷◌, length, map, All, arith}
 use Rattle.std.proofs.Common.{inl, inr, get_or, set, subst, sum, ltb-true}
-use Rattle.std.proofs.Math.Nat.{mul-pos, mul-le-mul_left}
-use Rattle.std.proofs.lemmas.Bool.{cases_Bool, cases_lt}
+use Rattle.std.proofs.Math.Nat.{mul-pos, lt_of_mul-lt-mul_right}
+use Rattle.std.proofs.lemmas.Bool.{cases_Bool}
 use Rattle.std.proofs.lemmas.Grind.{get_or-set_at}
 use Rattle.std.proofs.lemmas.List.{get_or-set_other, length-set}
 use Rattle.std.proofs.lemmas.List.Sums.{sum_by-cons, sum_by-set}
@@ -75,15 +75,8 @@ module _ (a : AskedValue) (greens : List ℕ) (p : ℕ) (is : IsAsked a) where
   more_there : (es : List ℕ) (w : Fraction) → is_above (degree_at a greens p) w ≡ true → is_above (degree_at a es p) w ≡ false
       → get_or greens p 0 < get_or es p 0
   more_there es w above under =
-      elim (cases_lt (get_or greens p 0) (get_or es p 0)) [
-        | inl more ↦ more
-        | inr less ↦ absurd (omega (
-          arith,
-          ltb-true _ _ above,
-          at_most (degree_at a es p) w under,
-          mul-le-mul_left (w.top * (get_or a.demands p no_demand).saturation) less,
-        ))
-      ]
+      lt_of_mul-lt-mul_right (w.top * (get_or a.demands p no_demand).saturation)
+      (omega (arith, ltb-true _ _ above, at_most (degree_at a es p) w under))
 
   -- a step for the stage with the greatest degree: no greens do better
   pub best_more : AreEnough a greens → p < length a.stages → IsUnder a greens (degree_at a greens p) → IsBest a greens
