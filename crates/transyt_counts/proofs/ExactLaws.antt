@@ -3,7 +3,7 @@ use Rattle.std.proofs.Common.{◌≡◌, ℕ, Bool, true, false, cond, ◌||◌,
 use Rattle.std.proofs.Common.{refl, sym, ◌∙◌, ap, arith, inl, inr, get_or, Ok}
 use Rattle.std.specs.List.{find, fold, list_any}
 use Rattle.std.specs.Prelude.{count_by}
-use Rattle.std.proofs.lemmas.Bool.{cases_Bool, cond_both, or_parts, ltb-false}
+use Rattle.std.proofs.lemmas.Bool.{cases_Bool, cond_both, ltb-false}
 use Rattle.std.proofs.lemmas.Simd.{map-map}
 use Rattle.std.proofs.lemmas.List.{length-map, get_or-map}
 use Rattle.std.proofs.lemmas.List.Sums.{sum_by-cons}
@@ -37,10 +37,8 @@ none_more : (j : Key) (ks : List Key) (flow : Key → ℕ) → list_any (same_ke
     → count_by (sets j) (map (λ k. edit_of k (flow k)) ks) ≡ 0
 none_more j [] flow none = refl
 none_more j (k ∷ ks) flow none =
-    let parts = or_parts (same_key j k) (list_any (same_key j) ks) none in
     let more = sum_by-cons (λ e. cond (sets j e) 1 0) (edit_of k (flow k)) (map (λ k. edit_of k (flow k)) ks) in
-    let here : tick (sets j (edit_of k (flow k))) ≡ 0 = ap tick (sets_by j k.link k.feeder (flow k) ∙ parts.0) in
-    omega (arith, more, here, none_more j ks flow parts.1)
+    grind (arith, more, sets_by j k.link k.feeder (flow k), none_more j ks flow)
 
 -- of edits of keys that differ just one sets a key that is among them
 pub one_of : (j : Key) (ks : List Key) (flow : Key → ℕ) → keys_differ ks ≡ true → list_any (same_key j) ks ≡ true
