@@ -1,14 +1,10 @@
--- Rows are compared and flags are read step by step, with no jump out.
-use Rattle.std.proofs.Common.{◌≡◌, ℕ, zero, suc, ◌+◌, ◌<◌, ◌&&◌, ◌||◌, Bool, false, refl, List, [], ◌∷◌, length}
+-- Rows are compared step by step, with no jump out.
+use Rattle.std.proofs.Common.{◌≡◌, ℕ, zero, suc, ◌+◌, ◌<◌, ◌&&◌, List, [], ◌∷◌, length}
 use Rattle.std.proofs.Common.{nat_eq, take, get_or, ap, sym, ◌∙◌, arith}
 use Rattle.std.specs.Str.{bytes_eq}
-use Rattle.std.specs.List.{list_any}
 use Rattle.std.specs.Int.Bits.{bit_xor, bit_or, xor_self, xor_zero_l, xor_zero_r, xor_assoc, or_zero_l}
-use Rattle.std.proofs.Math.Bool.{and_assoc, and-true, true-and}
-use Rattle.std.proofs.lemmas.Bool.{or_parts}
 use Rattle.std.proofs.lemmas.Bool.Decides.{nat_tests}
 use Rattle.std.proofs.lemmas.Nat.{le_or_l, le_or_r}
-use Rattle.transyt_track.specs.Front.{flag}
 
 -- numbers with no bit apart are one
 xor_none : (a b : ℕ) → bit_xor a b ≡ 0 → a ≡ b
@@ -40,10 +36,8 @@ steps_suc : (xs ys : List ℕ) (i : ℕ) → i < length xs → i < length ys
     ≡ (bytes_eq (take i xs) (take i ys) && nat_eq (get_or xs i 0) (get_or ys i 0))
 steps_suc [] ys i here there = absurd (omega arith)
 steps_suc (x ∷ xs) [] i here there = absurd (omega arith)
-steps_suc (x ∷ xs) (y ∷ ys) zero here there = and-true (nat_eq x y) ∙ sym (true-and (nat_eq x y))
-steps_suc (x ∷ xs) (y ∷ ys) (suc i) here there =
-    ap (λ t. nat_eq x y && t) (steps_suc xs ys i (omega arith) (omega arith))
-    ∙ sym (and_assoc (nat_eq x y) (bytes_eq (take i xs) (take i ys)) (nat_eq (get_or xs i 0) (get_or ys i 0)))
+steps_suc (x ∷ xs) (y ∷ ys) zero here there = grind arith
+steps_suc (x ∷ xs) (y ∷ ys) (suc i) here there = grind (arith, steps_suc xs ys i)
 
 -- one step more
 pub steps_more : (xs ys : List ℕ) (i d : ℕ) → i < length xs → i < length ys
@@ -56,16 +50,3 @@ steps_more xs ys i d here there before =
     ∙ ap (λ t. t && nat_eq (get_or xs i 0) (get_or ys i 0)) before
     ∙ sym (steps_suc xs ys i here there)
     ∙ ap (λ n. bytes_eq (take n xs) (take n ys)) (sym on)
-
--- no flag is up
-pub none_up : (flags : List Bool) → list_any (λ f. f) flags ≡ false → (p : ℕ) → flag flags p ≡ false
-none_up [] none p = refl
-none_up (f ∷ fs) none zero = (or_parts f (list_any (λ g. g) fs) none).0
-none_up (f ∷ fs) none (suc p) = none_up fs (or_parts f (list_any (λ g. g) fs) none).1 p
-
--- where no flag is up, none of these is
-pub none_of : (flags : List Bool) → list_any (λ f. f) flags ≡ false → (places : List ℕ)
-    → list_any (flag flags) places ≡ false
-none_of flags none [] = refl
-none_of flags none (p ∷ ps) =
-    ap (λ x. x || list_any (flag flags) ps) (none_up flags none p) ∙ none_of flags none ps

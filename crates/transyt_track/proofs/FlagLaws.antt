@@ -5,7 +5,8 @@ use Rattle.std.specs.List.{list_any, slice_get}
 use Rattle.std.specs.Option.{option_map_or}
 use Rattle.std.proofs.lemmas.List.Elements.{All-head, All-tail, All-nil, All-cons, All-append}
 use Rattle.std.proofs.lemmas.List.Folds.{list_any-append}
-use Rattle.transyt_track.specs.Own.{PlacesValue, read_places}
+use Rattle.transyt_net.specs.Parts.{Network}
+use Rattle.transyt_track.specs.Own.{PlacesValue, IsRead, read_places}
 
 -- or
 pub or_false : (x : Bool) → (x || false) ≡ x
@@ -46,7 +47,8 @@ all_one : (P : ℕ → Type 0) (rule : Option ℕ) → IfSome rule P → All P (
 all_one P None is = All-nil P
 all_one P (Some place) is = All-cons P place [] is (All-nil P)
 
-pub all_read : (P : ℕ → Type 0) (places : PlacesValue) → All P places.feeders → IfSome places.rule P
-    → All P (read_places places)
-all_read P places feeders rule =
-    All-append P places.feeders (option_to_list places.rule) feeders (all_one P places.rule rule)
+pub all_read : {a b : Network} {l : ℕ} {places : PlacesValue} → IsRead a b l places
+    → All (λ j. j < length b.links) (read_places places)
+all_read {a} {b} {l} {places} is =
+    let P = λ (j : ℕ). j < length b.links in
+    All-append P places.feeders (option_to_list places.rule) is.feeders (all_one P places.rule is.rule)

@@ -1,31 +1,29 @@
 -- The invariant of a tracker stays, since each call follows a network of the same shape.
-use Rattle.std.proofs.Common.{◌≡◌, List, Option, Some, None, IsSome, refl, ap, sym, subst, ◌∙◌}
+use Rattle.std.proofs.Common.{◌≡◌, List, Option, Some, None, IsSome, refl, ap, sym, ◌∙◌}
 use Rattle.std.specs.Option.{option_map}
-use Rattle.transyt_parts.specs.declared.frame.Frame.{Frame}
 use Rattle.transyt_net.specs.Parts.{Network, shape, SameShape}
 use Rattle.transyt_kept.specs.Rows.{RowsValue}
-use Rattle.transyt_sweep.specs.Front.{AreEvaluation}
 use Rattle.transyt_kept.specs.Marked.{KeptValue}
-use Rattle.transyt_track.specs.Own.{PlacesValue, ArePlaces, all_places}
+use Rattle.transyt_sweep.specs.Front.{AreEvaluation}
+use Rattle.transyt_track.specs.Own.{PlacesValue, all_places}
 use Rattle.transyt_track.specs.Change.{HasRoom}
 use Rattle.transyt_track.specs.declared.change.Front.{Front}
 use Rattle.transyt_track.specs.Due.{due}
 use Rattle.transyt_track.specs.Tracker.{TrackerValue, AreOfMark, IsTracking}
-use Rattle.transyt_track.proofs.ShapeLaws.{shape_frame, shape_count, shape_table}
+use Rattle.transyt_track.proofs.ShapeLaws.{shape_count, shape_table}
 use Rattle.transyt_track.proofs.PlaceLaws.{all_places_are}
 
 -- the networks of two trackers have one shape where those of their values have
 pub shape_inside : {was now other seen : TrackerValue} → was ≡ now → other ≡ seen → SameShape now.net seen.net
     → SameShape was.net other.net
-shape_inside here there same =
-    ap (λ (t : TrackerValue). shape t.net) here ∙ same ∙ sym (ap (λ (t : TrackerValue). shape t.net) there)
+shape_inside here there same = (λ j. shape (here j).net) ∙ same ∙ sym (λ j. shape (there j).net)
 
 -- room for one network is room for each of its shape
 room_shape : (a b : Network) → SameShape a b → (front : Front) → HasRoom a front → HasRoom b front
 room_shape a b same front room = record {
   own_count = room.own_count ∙ shape_count a b same;
   count = room.count ∙ shape_count a b same;
-  steps = room.steps ∙ ap (λ (f : Frame). f.step_count) (shape_frame a b same);
+  steps = room.steps ∙ (λ j. (same j).frame.step_count);
 }
 
 -- with a marked network there is a mark
@@ -38,69 +36,44 @@ pub no_mark : (mark : Option RowsValue) (marked : Network) → option_map (λ ro
 no_mark (Some rows) marked e = absurd (cc)
 no_mark None marked e = refl
 
--- no mark is open
-closed_mark : (mark : Option RowsValue) (marked : Network) → mark ≡ None → AreOfMark marked mark
-closed_mark mark marked closed = subst (AreOfMark marked) (sym closed) tt
-
 -- a new tracker
-pub opened_tracks : (net marked : Network) (front : Front) (places : List PlacesValue) → marked ≡ net
+pub opened_tracks : {net marked : Network} {front : Front} {places : List PlacesValue} → marked ≡ net
     → AreEvaluation net front.kept.now → front.kept.marked ≡ None → places ≡ all_places net → HasRoom net front
     → IsTracking net marked front places
-opened_tracks net marked front places copied evaluation closed all room =
-    let same : SameShape net marked = sym (ap shape copied) in
-    assumption (
-      same,
-      closed_mark front.kept.marked marked closed,
-      subst (ArePlaces net) (sym all) (all_places_are net),
-    )
+opened_tracks {net} copied evaluation closed all room = record {
+  shape = sym (ap shape copied);
+  evaluation = evaluation;
+  back = rw closed tt;
+  table = rw all (all_places_are net);
+  room = room;
+}
 
-module _ (net marked : Network) (front : Front) (places : List PlacesValue)
+module _ {net marked : Network} {front : Front} {places : List PlacesValue}
     (tracking : IsTracking net marked front places) where
-  -- the rows have gone over to another network
-  followed_tracks : (after : Network) → SameShape net after → (new : Front) → AreEvaluation after new.kept.now
-      → new.kept.marked ≡ front.kept.marked → HasRoom after new → IsTracking after marked new places
-  followed_tracks after same new evaluation stays room =
-      let shapes : SameShape after marked = sym same ∙ tracking.shape in
-      assumption (
-        shapes,
-        subst (AreOfMark marked) (sym stays) tracking.back,
-        shape_table net after same places tracking.table,
-      )
-
   -- a mark is set
   pub begun_tracks : IsTracking net net (record front { kept = record front.kept { marked = Some front.kept.now } })
       places
-  begun_tracks =
-      let same : SameShape net net = refl in
-      let room = tracking.room in
-      record {
-        shape = same;
-        evaluation = tracking.evaluation;
-        back = tracking.evaluation;
-        table = tracking.table;
-        room = record { own_count = room.own_count; count = room.count; steps = room.steps };
-      }
+  begun_tracks = assumption
 
   -- the rows are those of another network, and no mark is open
-  pub closed_tracks : (after other : Network) → SameShape net after → SameShape after other → (kept : KeptValue)
+  pub closed_tracks : {after other : Network} → SameShape net after → SameShape after other → {kept : KeptValue}
       → AreEvaluation after kept.now → kept.marked ≡ None
       → IsTracking after other (record front { kept = kept }) places
-  closed_tracks after other same same_other kept evaluation closed =
-      let room = room_shape net after same front tracking.room in
-      record {
-        shape = same_other;
-        evaluation = evaluation;
-        back = closed_mark kept.marked other closed;
-        table = shape_table net after same places tracking.table;
-        room = record { own_count = room.own_count; count = room.count; steps = room.steps };
-      }
+  closed_tracks {after} {other} same same_other {kept} evaluation closed =
+      let back : AreOfMark other kept.marked = rw closed tt in
+      assumption (
+        same_other,
+        back,
+        shape_table net after same places tracking.table,
+        room_shape net after same front tracking.room,
+      )
 
 -- a tracker goes over to another network with the shape of that of its value
-module _ {was now : TrackerValue} (view : was ≡ now) {marked : Network} {front : Front} {places : List PlacesValue} (tracking : IsTracking was.net marked front places) (after : Network)
-    (same : SameShape now.net after) where
+module _ {was now : TrackerValue} (view : was ≡ now) {marked : Network} {front : Front} {places : List PlacesValue}
+    (tracking : IsTracking was.net marked front places) (after : Network) (same : SameShape now.net after) where
   -- its own has that shape too
   pub follow_shape : SameShape was.net after
-  follow_shape = ap (λ (t : TrackerValue). shape t.net) view ∙ same
+  follow_shape = (λ j. shape (view j).net) ∙ same
 
   -- there is room for it
   pub follow_room : HasRoom after front
@@ -113,5 +86,10 @@ module _ {was now : TrackerValue} (view : was ≡ now) {marked : Network} {front
   -- its rows are those of that network
   pub follow_tracks : {new : Front} → AreEvaluation after new.kept.now → new.kept.marked ≡ front.kept.marked
       → HasRoom after new → IsTracking after marked new places
-  follow_tracks {new} =
-      followed_tracks was.net marked front places tracking after follow_shape new
+  follow_tracks {new} evaluation stays room = record {
+    shape = sym follow_shape ∙ tracking.shape;
+    evaluation = evaluation;
+    back = rw stays tracking.back;
+    table = shape_table was.net after follow_shape places tracking.table;
+    room = room;
+  }

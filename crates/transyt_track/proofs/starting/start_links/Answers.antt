@@ -25,16 +25,15 @@ loop-link-preserved c =
           ((w.per_step.ensures.value ∙ ap (perstep b.frame) w.total_flow.ensures.value) j)) in
           record {
             at = rw (w.kept-is, w.fill_out.ensures.value, started)
-                (started_put a b same l c.loop-link.kept.now c.args.out_changed.now i.at inside some w.fill_out.ensures.kept);
+                (started_put a b same i.at inside some w.fill_out.ensures.kept);
             marked = ap (λ (k : KeptValue). k.marked) (w.kept-is ∙ w.fill_out.ensures.value) ∙ i.marked;
           }
       | else-out_changed-link w ↦ record {
-        at = rw w.kept-is (started_left a b same l c.loop-link.kept.now c.args.out_changed.now i.at inside some w.if-out_changed-link.false);
+        at = rw w.kept-is (started_left a b same i.at inside some w.if-out_changed-link.false);
         marked = ap (λ (k : KeptValue). k.marked) w.kept-is ∙ i.marked;
       }
     ]
 
 pub returns-clause-at : goal.returns-clause-at
 returns-clause-at c =
-    turned_sweep _ _ 0 c.loop-link.link c.loop-link.kept.now c.args.out_changed.now c.loop-link.invariant.at
-    (omega (arith, ap length c.links-link-end.ensures.value))
+    turned_sweep c.loop-link.invariant.at (omega (arith, ap length c.links-link-end.ensures.value))

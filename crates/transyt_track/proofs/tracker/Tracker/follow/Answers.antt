@@ -15,9 +15,7 @@ returns-clause-due g c =
     c.follow_rows-due.ensures.count ∙ follow_due c.self.view_is c.self.invariant c.args.after.now c.requires
 
 pub follow_rows-due-requires-clause-room : goal.follow_rows-due-requires-clause-room
-follow_rows-due-requires-clause-room g c =
-    follow_room c.self.view_is c.self.invariant c.args.after.now c.requires
+follow_rows-due-requires-clause-room g c = follow_room c.self.view_is c.self.invariant c.args.after.now c.requires
 
 pub returns-clause-most : goal.returns-clause-most
-returns-clause-most g c =
-    omega (arith, returns-clause-due g c, due_most c.args.self.now.net c.args.after.now)
+returns-clause-most g c = omega (arith, returns-clause-due g c, due_most c.args.self.now.net c.args.after.now)

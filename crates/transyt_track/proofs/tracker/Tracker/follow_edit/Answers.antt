@@ -18,5 +18,4 @@ returns-clause-due g c =
     c.follow_rows-due.ensures.count ∙ follow_due c.self.view_is c.self.invariant c.args.after.now c.requires.shape
 
 pub follow_rows-due-requires-clause-room : goal.follow_rows-due-requires-clause-room
-follow_rows-due-requires-clause-room g c =
-    follow_room c.self.view_is c.self.invariant c.args.after.now c.requires.shape
+follow_rows-due-requires-clause-room g c = follow_room c.self.view_is c.self.invariant c.args.after.now c.requires.shape

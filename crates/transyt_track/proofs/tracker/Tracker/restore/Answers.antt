@@ -15,5 +15,4 @@ invariant_of-self c =
     let was = c.self.invariant in
     let rows = subst (AreOfMark i.marked) c.restore.ensures.rows was.back in
     rw (c.swap.ensures.x_after, c.swap.ensures.y_after)
-    (closed_tracks i.net i.marked i.front i.places.items was i.marked i.net was.shape (sym was.shape) c.restore.new.self
-    rows c.restore.ensures.marked)
+    (closed_tracks was was.shape (sym was.shape) rows c.restore.ensures.marked)

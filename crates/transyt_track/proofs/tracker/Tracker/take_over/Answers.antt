@@ -16,6 +16,5 @@ invariant_of-self c =
     let i = c.self.inside in
     let same = shape_inside c.self.view_is c.from.view_is c.requires.shape in
     rw c.take_numbers.ensures
-    (closed_tracks i.net i.marked i.front i.places.items c.self.invariant c.from.inside.net i.marked
-    same (sym same ∙ c.self.invariant.shape) c.copy_rows.new.kept c.copy_rows.ensures.rows
+    (closed_tracks c.self.invariant same (sym same ∙ c.self.invariant.shape) c.copy_rows.ensures.rows
     (c.copy_rows.ensures.marked ∙ no_mark i.front.kept.marked i.marked (ap (λ (t : TrackerValue). t.mark) c.self.view_is ∙ c.requires.closed)))
