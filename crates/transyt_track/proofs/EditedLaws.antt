@@ -50,20 +50,17 @@ module _ {a b : Network} (valid_a : IsValid a) (valid_b : IsValid b) {place : �
         let times = times_here a b l valid_a valid_b read.inside_before read.inside read.places_before read.places_after in
         (λ have. record { numbers = numbers; times = times.0 have }, λ have. times.1 have.times)
 
-    pub flag_down : (n : ℕ) → n ≡ places.node → ((not told && nat_eq n place) ≡ false ↔ HaveData a b l)
-    flag_down n at = by (cases_eq n place)
+    pub flag_down : (not told && nat_eq places.node place) ≡ false ↔ HaveData a b l
+    flag_down = by (cases_eq places.node place)
       where
-        by : (n ≡ place) ⊎ (n ≡ place → ⊥) → ((not told && nat_eq n place) ≡ false ↔ HaveData a b l)
+        by : (places.node ≡ place) ⊎ (places.node ≡ place → ⊥)
+            → ((not told && nat_eq places.node place) ≡ false ↔ HaveData a b l)
         by (inl here) =
-            let there : place ≡ places.node = sym here ∙ at in (
-              λ down.
-                  let stays : told ≡ true = grind (arith, nat_tests) in
-                  data_is.0 (subst (HaveNode a b) there (is.0 stays)),
-              λ have.
-                  let stays : told ≡ true = is.1 (subst (HaveNode a b) (sym there) (data_is.1 have)) in
-                  grind (arith, nat_tests),
+            let have_node : HaveNode a b place ↔ HaveData a b l = subst (λ n. HaveNode a b n ↔ HaveData a b l) here data_is in (
+              λ down. have_node.0 (is.0 (grind (arith, nat_tests))),
+              λ have. let stays : told ≡ true = is.1 (have_node.1 have) in grind (arith, nat_tests),
             )
         by (inr other) = (
-          λ down. data_is.0 (subst (HaveNode a b) at (differ.nodes n other)),
-          λ have. let apart : n ≢ place = other in grind (arith, nat_tests),
+          λ down. data_is.0 (differ.nodes places.node other),
+          λ have. let apart : places.node ≢ place = other in grind (arith, nat_tests),
         )

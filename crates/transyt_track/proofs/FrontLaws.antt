@@ -43,12 +43,6 @@ flag_more flags l d test inside before is m within =
     grind (arith, before m, get_or-set_at flags l m d false, get_or-set_other flags l m d false)
 
 -- the sweep whose departures are read, as the front moves on
-read_own : (s l : ℕ) → read_at s (l + 1) l ≡ s
-read_own s l = grind (arith, nat_tests)
-
-read_on : (s l m : ℕ) → m ≢ l → read_at s (l + 1) m ≡ read_at s l m
-read_on s l m apart = grind (arith, nat_tests)
-
 read_turn : (s links m : ℕ) → m < links → read_at s links m ≡ read_at (s + 1) 0 m
 read_turn s links m inside = grind (arith, nat_tests)
 
@@ -75,18 +69,16 @@ module _ {a b : Network} {s l : ℕ} {rows : RowsValue} {changed : List Bool} (a
       → AreFlags (read_differs a b s (l + 1)) (length b.links) (set changed l d)
   flags_put inside d told = record {
     count = length-set changed l d ∙ at.flags.count;
-    flagged = λ m there. by m there (cases_eq m l);
+    flagged = λ m there.
+        grind (
+          arith,
+          nat_tests,
+          at.flags.count,
+          at.flags.flagged m there,
+          get_or-set_at changed l m d false,
+          get_or-set_other changed l m d false,
+        );
   }
-    where
-      by : (m : ℕ) → m < length b.links → (m ≡ l) ⊎ (m ≡ l → ⊥)
-          → flag (set changed l d) m ≡ read_differs a b s (l + 1) m
-      by m there (inl here) =
-          rw here (get_or-set_same changed l d false (omega (arith, inside, at.flags.count)) ∙ told
-          ∙ ap (λ t. differs a b t l) (sym (read_own s l)))
-      by m there (inr other) =
-          get_or-set_other changed l m d false other
-          ∙ at.flags.flagged m there
-          ∙ ap (λ t. differs a b t m) (sym (read_on s l m other))
 
   -- at the end of a sweep the next begins
   pub turned_sweep : length b.links ≡ l → AreAt a b (s + 1) 0 rows changed

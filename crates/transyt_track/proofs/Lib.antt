@@ -4,7 +4,6 @@ pub mod ShapeLaws
 pub mod PlaceLaws
 pub mod MixedLaws
 pub mod DueLaws
-pub mod DueBounds
 pub mod LeftLaws
 pub mod FlagLaws
 pub mod FrontLaws
@@ -12,5 +11,4 @@ pub mod StartLaws
 pub mod EditedLaws
 pub mod TrackLaws
 pub mod RuleLaws
-pub mod CompareLaws
 pub mod ChangeLaws

@@ -1,5 +1,5 @@
 -- The invariant of a tracker stays, since each call follows a network of the same shape.
-use Rattle.std.proofs.Common.{◌≡◌, List, Option, Some, None, IsSome, refl, ap, sym, ◌∙◌}
+use Rattle.std.proofs.Common.{◌≡◌, List, Option, Some, None, refl, ap, sym, ◌∙◌}
 use Rattle.std.specs.Option.{option_map}
 use Rattle.transyt_net.specs.Parts.{Network, shape, SameShape}
 use Rattle.transyt_kept.specs.Rows.{RowsValue}
@@ -25,11 +25,6 @@ room_shape a b same front room = record {
   count = room.count ∙ shape_count a b same;
   steps = room.steps ∙ (λ j. (same j).frame.step_count);
 }
-
--- with a marked network there is a mark
-pub open_mark : (mark : Option RowsValue) (marked : Network) → IsSome (option_map (λ rows. marked) mark) → IsSome mark
-open_mark (Some rows) marked some = refl
-open_mark None marked none = absurd (cc)
 
 -- with no marked network there is no mark
 pub no_mark : (mark : Option RowsValue) (marked : Network) → option_map (λ rows. marked) mark ≡ None → mark ≡ None

@@ -132,6 +132,7 @@ pub(crate) fn same_data(at: &ChangedLink<'_, '_>, node_changed: &[bool]) -> bool
 }
 
 /// Whether the total flow of a link differs. Nothing is summed up where `same` tells that its data are equal.
+#[tactic(auto, using(crate::proofs::ChangeLaws::data_total))]
 pub(crate) fn other_total(at: &ChangedLink<'_, '_>, same: bool) -> bool
     requires { IsTrue same ↔ HaveData at.now.change.now.before.now at.now.change.now.after.now
         at.now.link }

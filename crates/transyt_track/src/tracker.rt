@@ -188,6 +188,7 @@ impl Tracker {
     }
 
     /// The index of the network: the sum of its links' indexes.
+    #[tactic(auto, using(transyt_sweep::proofs::IndexLaws::index_is))]
     pub fn index(&self) -> u128
         ensures { result ≡ index self.now.net }
     {

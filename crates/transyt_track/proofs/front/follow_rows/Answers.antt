@@ -2,8 +2,7 @@
 use Rattle.std.proofs.Common.{◌≡◌, ◌+◌, ◌-◌, refl, ap, ◌∙◌, arith}
 use Rattle.transyt_parts.specs.declared.frame.Frame.{Frame}
 use Rattle.transyt_track.specs.Due.{due, due_through}
-use Rattle.transyt_track.proofs.DueBounds.{due_through_few, due_few}
-use Rattle.transyt_track.proofs.DueLaws.{due_through_more}
+use Rattle.transyt_track.proofs.DueLaws.{due_through_more, due_through_few, due_few}
 use Rattle.transyt_track.proofs.MixedLaws.{mixed_end}
 use Rattle.transyt_track.proofs.front.follow_rows.Goals as goal
 

@@ -1,22 +1,11 @@
 -- With equal weights the index stays.
-use Rattle.std.proofs.Common.{◌≡◌, IsTrue, sym, ap, ◌∙◌, arith, rules}
+use Rattle.std.proofs.Common.{◌≡◌, IsTrue, sym, ap, arith, rules}
 use Rattle.transyt_parts.specs.declared.frame.Frame.{Frame}
 use Rattle.transyt_kept.specs.Cell.{CellValue}
-use Rattle.transyt_kept.specs.Rows.{RowsValue, with_figures}
-use Rattle.transyt_sweep.specs.Reading.{reweighed}
+use Rattle.transyt_kept.specs.Rows.{RowsValue}
 use Rattle.transyt_track.proofs.FrontLaws.{same_test}
 use Rattle.transyt_track.proofs.LeftLaws.{weights_stay}
 use Rattle.transyt_track.proofs.replacing.leave.Goals as goal
-
-pub returns-then-not-same_weights : goal.returns-then-not-same_weights
-returns-then-not-same_weights c =
-    let b = c.args.pair.now.change.now.after.now in
-    let l = c.args.pair.now.link in
-    let sweeps : c.frame.result.sweeps ≡ b.frame.sweeps = ap (λ (f : Frame). f.sweeps) c.frame.ensures.value in
-    let last : b.frame.sweeps ≡ c.args.pair.now.sweep = omega (arith, c.if-pair-frame.false, sweeps) in
-    rw (same_test c.args.pair.now.sweep b.frame.sweeps last) (c.put_figures.ensures
-    ∙ ap (λ f. record c.args.kept.now { now = with_figures c.args.kept.now.now l f })
-    (c.reweigh.ensures.value ∙ ap (reweighed b l) c.figures-figures.ensures.value))
 
 pub returns-else-not-same_weights : goal.returns-else-not-same_weights
 returns-else-not-same_weights c =

@@ -8,20 +8,6 @@ use Rattle.transyt_sweep.proofs.FrontLaws.{mixed_turn}
 use Rattle.transyt_track.proofs.MixedLaws.{mixed_placed, shown_placed, shown_turn, mixed_end}
 use Rattle.transyt_track.proofs.returning.copy_rows.Goals as goal
 
-pub take_pair-requires : goal.take_pair-requires
-take_pair-requires c =
-    let fits = c.loop-link.invariant.outs.fits in
-    let of = c.requires.from.fits in
-    record {
-      sweep = omega (arith, c.loop-sweep-test.true, ap (λ (f : Frame). f.sweeps) c.frame-sweep-end.ensures.value, fits.sweeps);
-      link = omega (arith, c.loop-link-test.true, ap length c.links-link-end.ensures.value, fits.link_count);
-      size = record {
-        step_count = fits.step_count ∙ sym of.step_count;
-        sweeps = fits.sweeps ∙ sym of.sweeps;
-        link_count = fits.link_count ∙ sym of.link_count;
-      };
-    }
-
 pub loop-link-preserved : goal.loop-link-preserved
 loop-link-preserved c =
     let net = c.args.net.now in

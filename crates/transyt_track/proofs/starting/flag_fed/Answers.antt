@@ -7,9 +7,6 @@ use Rattle.transyt_track.proofs.ChangeLaws.{own_flag}
 use Rattle.transyt_track.proofs.FrontLaws.{flag_more}
 use Rattle.transyt_track.proofs.starting.flag_fed.Goals as goal
 
-pub any_changed-requires : goal.any_changed-requires
-any_changed-requires c = rw (c.feeders.ensures, c.requires.totals.count) c.link.ensures.read.feeders
-
 pub loop-link-preserved : goal.loop-link-preserved
 loop-link-preserved c =
     let change = c.args.change.now in

@@ -8,11 +8,6 @@ use Rattle.transyt_track.proofs.EditedLaws.{flag_down}
 use Rattle.transyt_track.proofs.ShapeLaws.{shape_nodes}
 use Rattle.transyt_track.proofs.starting.flag_node.Goals as goal
 
-pub bounds-nodes-node : goal.bounds-nodes-node
-bounds-nodes-node c =
-    let nodes = shape_nodes _ _ c.args.change.now.same_shape in
-    omega (arith, c.requires.node.inside, nodes, ap length c.nodes.ensures.value)
-
 pub loop-link-preserved : goal.loop-link-preserved
 loop-link-preserved c =
     let a = c.args.change.now.before.now in
@@ -39,6 +34,6 @@ loop-link-preserved c =
       count = length-set flags l (not told && nat_eq c.places.inside.node p) ∙ c.loop-link.invariant.count;
       down = down_more flags l (not told && nat_eq c.places.inside.node p) (HaveData a b)
           (omega (arith, read.inside, c.loop-link.invariant.count)) c.loop-link.invariant.down
-          (flag_down c.nodes.ensures.valid c.nodes-2.ensures.valid c.requires.node is read c.places.inside.node
-          (ap (λ (q : PlacesValue). q.node) c.places.view_is));
+          (rw (ap (λ (q : PlacesValue). q.node) c.places.view_is)
+          (flag_down c.nodes.ensures.valid c.nodes-2.ensures.valid c.requires.node is read));
     }

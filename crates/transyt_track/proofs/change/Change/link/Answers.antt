@@ -5,14 +5,8 @@ use Rattle.transyt_track.proofs.change.Change.link.Goals as goal
 pub invariant_of-result : goal.invariant_of-result
 invariant_of-result c =
     let change = c.args.self.now in
-    let read = table_read change.before.now change.after.now change.same_shape change.places.now change.are_places
-    c.args.link c.requires c.index-self-link.result in
-    record {
-      inside_before = read.inside_before;
-      inside = read.inside;
-      places_before = read.places_before;
-      places_after = read.places_after;
-    }
+    assumption (table_read change.before.now change.after.now change.same_shape change.places.now change.are_places
+    c.args.link c.requires c.index-self-link.result)
 
 pub returns-clause-read : goal.returns-clause-read
 returns-clause-read c =

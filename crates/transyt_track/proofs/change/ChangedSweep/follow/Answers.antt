@@ -10,13 +10,6 @@ pub loop-link-init : goal.loop-link-init
 unfolding due_in
 loop-link-init g c = record { front = c.requires; marked = refl; count = refl; steps = omega arith }
 
-pub invariant_of-pair : goal.invariant_of-pair
-invariant_of-pair g c = record {
-  first = c.args.self.now.first;
-  last = c.args.self.now.last;
-  inside = omega (arith, c.loop-link-test.true, ap length c.links-link-end.ensures.value);
-}
-
 pub overflow_add-count : goal.overflow_add-count
 overflow_add-count g c =
     let change = c.args.self.now.change.now in

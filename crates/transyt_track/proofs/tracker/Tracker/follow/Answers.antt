@@ -1,6 +1,6 @@
 -- The rows are those of the network after.
 use Rattle.std.proofs.Common.{◌∙◌, arith}
-use Rattle.transyt_track.proofs.DueBounds.{due_most}
+use Rattle.transyt_track.proofs.DueLaws.{due_most}
 use Rattle.transyt_track.proofs.TrackLaws.{follow_room, follow_due, follow_tracks}
 use Rattle.transyt_track.proofs.tracker.Tracker.follow.Goals as goal
 

@@ -1,13 +1,8 @@
 -- The rows are those of the marked network.
-use Rattle.std.proofs.Common.{IsSome, sym, subst}
-use Rattle.transyt_track.specs.Tracker.{TrackerValue, AreOfMark}
-use Rattle.transyt_track.proofs.TrackLaws.{open_mark, closed_tracks}
+use Rattle.std.proofs.Common.{sym, subst}
+use Rattle.transyt_track.specs.Tracker.{AreOfMark}
+use Rattle.transyt_track.proofs.TrackLaws.{closed_tracks}
 use Rattle.transyt_track.proofs.tracker.Tracker.restore.Goals as goal
-
-pub restore-requires : goal.restore-requires
-restore-requires c =
-    open_mark c.self.inside.front.kept.marked c.self.inside.marked
-    (subst (λ (t : TrackerValue). IsSome t.mark) (sym c.self.view_is) c.requires)
 
 pub invariant_of-self : goal.invariant_of-self
 invariant_of-self c =
