@@ -1,13 +1,13 @@
 -- Each place has a slot.
 use Rattle.std.proofs.Common.{◌≡◌, ◌<◌, ◌≤◌, ◌+◌, ◌-◌, ◌*◌, ◌/◌, ◌%◌, ℕ, Some, None, Option, if◌then◌else◌, nat_lt}
-use Rattle.std.proofs.Common.{sym, ap, ◌∙◌, arith, subst, List, length, map, get_or, IfSome}
-use Rattle.std.specs.List.{range_with_len}
-use Rattle.std.proofs.lemmas.List.FromFn.{fill_by_all}
+use Rattle.std.proofs.Common.{List, [], ◌∷◌, ◌++◌, length, ap, sym, ◌∙◌, arith, subst, IfSome}
+use Rattle.std.proofs.lemmas.List.FromFn.{length-map-range_with_len, map-range_with_len_more}
 use Rattle.std.proofs.lemmas.Nat.{div-add-mod', div-mul-add, mod-mul-add, mod_below}
 use Rattle.transyt_climbs.specs.declared.deal.Deal.{Deal}
-use Rattle.transyt_climbs.specs.Deals.{mirrored, dealt, place_at, slot_of_number, slot_of, Holds, AreGathered}
+use Rattle.transyt_climbs.specs.Deals.{mirrored, dealt, place_at, slot_of_number, slot_of, Holds, batch_row, first_rows}
+use Rattle.transyt_climbs.specs.Climbs.{NetworkListValue, row_at}
+use Rattle.transyt_net.specs.Parts.{Network}
 use Rattle.transyt_climbs.specs.declared.row.NetworkRow.{NetworkRow}
-use Rattle.transyt_climbs.specs.declared.row.NetworkRow.TheVariants as row
 
 -- back from back is forth
 mirrored_twice : (turn worker workers : ℕ) → worker < workers
@@ -72,19 +72,27 @@ slot_within deal place less =
     let who : mirrored turn worker deal.workers < deal.workers = grind (arith) in
     in_rows (mirrored turn worker deal.workers) turn deal.workers deal.turns who short
 
-module _ (row_at : ℕ → NetworkRow) (deal : Deal) (slots : List (Option NetworkRow)) (rows : List NetworkRow) where
-  -- where each slot holds the row of its place, the rows in the order of their places are the table
-  pub rows_gathered : length slots ≡ deal.workers * deal.turns
-      → ((k : ℕ) (d : Option NetworkRow) → k < length slots → Holds row_at deal k (get_or slots k d))
-      → AreGathered deal slots rows → rows ≡ map row_at (range_with_len 0 deal.count)
-  rows_gathered all made gathered =
-      let none : NetworkRow = row.NoPlan 0 in
-      fill_by_all row_at rows deal.count none gathered.all (λ k less.
-      let slot = slot_of deal k in
-      let within = slot_within deal k less in
-      let held = made slot None (omega (arith, within, all)) in
-      let found = get_or rows k none in
-      let here : Holds row_at deal slot (Some found) =
-      subst (Holds row_at deal slot) (sym (gathered.each k none less)) held in
-      let P : Option ℕ → Type 0 = λ at. IfSome at (λ place. found ≡ row_at place) in
-      subst P (placed_back deal k less) here)
+-- so what the slot of a place holds is the row of that place
+pub held_row : (row_at : ℕ → NetworkRow) (deal : Deal) (place : ℕ) (row : NetworkRow) → place < deal.count
+    → Holds row_at deal (slot_of deal place) (Some row) → row ≡ row_at place
+held_row row_at deal place row less held =
+    let P : Option ℕ → Type 0 = λ at. IfSome at (λ place. row ≡ row_at place) in
+    subst P (placed_back deal place less) held
+
+-- with the row of the next place of a batch, the rows of the places before it are those of one place more
+pub rows_more : (asked : NetworkListValue) (net : Network) (first place : ℕ) (before after : List NetworkRow)
+    (row : NetworkRow) → before ≡ first_rows asked net (first + place) → row ≡ batch_row asked net first place
+    → after ≡ before ++ row ∷ [] → after ≡ first_rows asked net (first + (place + 1))
+rows_more asked net first place before after row all here more =
+    let at : ℕ = first + place in
+    let next : at + 1 ≡ first + (place + 1) = omega arith in
+    more
+    ∙ ap (λ (rows : List NetworkRow). rows ++ row ∷ []) all
+    ∙ ap (λ (r : NetworkRow). first_rows asked net at ++ r ∷ []) here
+    ∙ sym (map-range_with_len_more (row_at asked net) 0 at at (omega arith))
+    ∙ ap (first_rows asked net) next
+
+-- there are as many rows as places
+pub rows_counted : (asked : NetworkListValue) (net : Network) (n : ℕ) (rows : List NetworkRow)
+    → rows ≡ first_rows asked net n → length rows ≡ n
+rows_counted asked net n rows all = ap length all ∙ length-map-range_with_len (row_at asked net) 0 n

@@ -1,6 +1,9 @@
--- Places dealt to workers. No public clause cites it: who climbs on which network changes no row.
-use Rattle.std.specs.Prelude.{ℕ, ◌+◌, ◌-◌, ◌*◌, ◌/◌, ◌%◌, ◌≡◌, ◌<◌, ◌==◌, nat_lt, if◌then◌else◌, Option, Some, None}
-use Rattle.std.specs.Prelude.{IfSome, List, length, slice_index_or}
+-- The places of a batch dealt to workers. No public clause cites it: who climbs on which network changes no row.
+use Rattle.std.specs.Prelude.{ℕ, ◌+◌, ◌-◌, ◌*◌, ◌/◌, ◌%◌, ◌≡◌, ◌==◌, nat_lt, if◌then◌else◌, Option, Some, None}
+use Rattle.std.specs.Prelude.{IfSome, List, map}
+use Rattle.std.specs.List.{range_with_len}
+use Rattle.transyt_net.specs.Parts.{Network}
+use Rattle.transyt_climbs.specs.Climbs.{NetworkListValue, row_at}
 use Rattle.transyt_climbs.specs.declared.deal.Deal.{Deal}
 use Rattle.transyt_climbs.specs.declared.row.NetworkRow.{NetworkRow}
 
@@ -31,8 +34,10 @@ slot_of deal place = slot_of_number deal (deal.count - 1 - place)
 abbrev pub Holds : (ℕ → NetworkRow) → Deal → ℕ → Option NetworkRow → Type 0
 Holds row_at deal slot held = IfSome held (λ row. IfSome (place_at deal slot) (λ place. row ≡ row_at place))
 
--- rows in the order of their places: each is what the slot of its place holds
-pub record AreGathered (deal : Deal) (slots : List (Option NetworkRow)) (rows : List NetworkRow) : Type 0 where
-  pub all : length rows ≡ deal.count
-  pub each : (k : ℕ) (d : NetworkRow) → k < deal.count
-      → Some (slice_index_or rows k d) ≡ slice_index_or slots (slot_of deal k) None
+-- the row at a place of a batch, whose places are counted from its first
+abbrev pub batch_row : NetworkListValue → Network → ℕ → ℕ → NetworkRow
+batch_row asked net first place = row_at asked net (first + place)
+
+-- the rows of the first n places
+abbrev pub first_rows : NetworkListValue → Network → ℕ → List NetworkRow
+first_rows asked net n = map (row_at asked net) (range_with_len 0 n)

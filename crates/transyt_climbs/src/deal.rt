@@ -1,4 +1,4 @@
-//! Places dealt to workers, a turn at a time.
+//! The places of a batch dealt to workers, a turn at a time.
 
 ghost use Rattle.std.specs.Prelude.{◌<◌, ◌≤◌, ◌*◌, ◌+◌};
 

@@ -1,10 +1,9 @@
-//! How places are dealt.
+//! How the places of a batch are dealt.
 
-ghost use Rattle.std.specs.Prelude.{◌≡◌, ◌<◌, ◌*◌};
+ghost use Rattle.std.specs.Prelude.{◌≡◌, ◌<◌, ◌≤◌, ◌*◌};
 ghost use Rattle.transyt_climbs.specs.Deals.{mirrored, place_at, slot_of};
 
 use crate::deal::Deal;
-use crate::networks::NetworkList;
 
 /// The worker of a number within a turn, or the number of a worker: the same in even turns, counted from the other end in
 /// odd ones.
@@ -21,12 +20,14 @@ fn mirrored(turn: usize, worker: usize, workers: usize) -> usize
 }
 
 impl Deal {
-    /// The places of a list of networks, dealt to its workers.
+    /// So many places dealt to so many workers.
     #[tactic(auto, using(std::proofs::lemmas::Grind::div_ceil_times))]
-    pub(crate) fn new<P: NetworkList>(asked: &P) -> Deal
-        ensures { result.count ≡ (P.list asked.now).count }
+    pub(crate) fn new(count: usize, workers: usize) -> Deal
+        requires some { 0 < workers }
+        requires few { workers ≤ 8 }
+        requires count_most { count ≤ 1000 }
+        ensures { result.count ≡ count }
     {
-        let (count, workers) = (asked.count(), asked.workers());
         Deal {
             count,
             workers,

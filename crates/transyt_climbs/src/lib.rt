@@ -2,9 +2,9 @@
 //!
 //! A word that compares plans asks for networks that are made out of a deck's: [`NetworkList`] says how many, the number of
 //! each, and the network at a place or why there is none. [`climb_networks`] climbs each once by its own climb plan and
-//! makes the table, a row each. The places are dealt to workers who climb at once by std's fork and join, and the first
-//! of them tells a sink how far the run is; each climb has a network, a session and a counter of steps of its own, which
-//! its branch makes between entering and leaving a [`ClimbGate`]. [`best`] finds the first row with the least index at its
+//! makes the table, a row each. It goes by batches, after each of which a sink is told how far the run is. The places of a
+//! batch are dealt to workers who climb at once by std's fork and join; each climb has a network, a session and a counter
+//! of steps of its own, which its branch makes between entering and leaving a [`ClimbGate`]. [`best`] finds the first row with the least index at its
 //! end, and [`Work::end_at`] climbs once more for the network at the end.
 //! [`CycleTimes`] are cycle times by a step, for the words that ask for such. [`scan`] makes the table of the climbs at
 //! such cycle times where the network with that cycle is climbed once and all else of it stays, offsets and changes in
@@ -15,6 +15,7 @@
 //! [`scan`]. That two climbs are under way at once is no clause's matter: a test shows it.
 #![tactic(auto)]
 
+mod batching;
 mod climbing;
 mod deal;
 mod dealing;

@@ -23,6 +23,9 @@ pub trait NetworkList: Sync {
     /// How many networks there are, the number of each row, and the network at each place.
     ghost list: { Self → NetworkListValue };
 
+    /// What each row is of, as a person reads it.
+    fn noun(&self) -> &'static str;
+
     /// How many workers climb.
     fn workers(&self) -> usize
         ensures some { 0 < result }

@@ -20,6 +20,10 @@ impl NetworkList for ScanList {
 
     ghost list = { λ self. listed self.asked.times };
 
+    fn noun(&self) -> &'static str {
+        "cycle time"
+    }
+
     fn workers(&self) -> usize {
         self.asked.workers as usize
     }

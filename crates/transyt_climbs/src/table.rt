@@ -1,151 +1,112 @@
-//! The table of the climbs.
+//! The table of the climbs, made batch by batch.
 
-ghost use Rattle.std.specs.Prelude.{◌≡◌, ◌<◌, ◌≤◌, ◌*◌, ◌+◌, ℕ, length, Option, IfOk, slice_index_or};
+ghost use Rattle.std.specs.Prelude.{◌≡◌, ◌<◌, ◌*◌, ◌+◌, ℕ, length, Option, IfOk, slice_index_or};
 ghost use Rattle.std.specs.Thread.{IsSync};
-ghost use Rattle.transyt_climbs.specs.Climbs.{row_at, table};
-ghost use Rattle.transyt_climbs.specs.Deals.{AreGathered, Holds};
+ghost use Rattle.transyt_climbs.specs.Climbs.{table};
+ghost use Rattle.transyt_climbs.specs.Deals.{Holds, batch_row, first_rows};
 ghost use Rattle.transyt_climbs.specs.declared.row.NetworkRow.{NetworkRow};
 
-use crate::deal::Deal;
 use crate::gate::ClimbGate;
 use crate::networks::NetworkList;
-use crate::progress::Progress;
+use crate::progress::tell;
 use crate::row::NetworkRow;
-use crate::work::{Dealt, Work};
-use std::alloc::{AllocError, Global};
+use crate::work::{Batch, Work};
+use std::alloc::AllocError;
 use std::thread::{self, Threads};
 use transyt_io::Sink;
 
 /// Climbs on the network in a slot. No row is left where the slot has no place or memory is out.
 fn fill<P: NetworkList, B: ClimbGate>(
-    dealt: &Dealt<'_, P, B>,
+    batch: &Batch<'_, P, B>,
     slot: usize,
     row: &mut Option<NetworkRow>,
 )
-    requires { slot < dealt.now.deal.workers * dealt.now.deal.turns }
-    ensures { Holds (row_at (P.list dealt.now.work.now.asked.now) dealt.now.work.now.net.now)
-        dealt.now.deal slot row.new }
+    requires { slot < batch.now.deal.workers * batch.now.deal.turns }
+    ensures { Holds (batch_row (P.list batch.now.work.now.asked.now)
+        batch.now.work.now.net.now batch.now.first) batch.now.deal slot row.new }
 {
-    *row = match dealt.deal.place_at(slot) {
-        Some(place) => dealt.work.pass_gate(place),
+    *row = match batch.deal.place_at(slot) {
+        Some(place) => batch.work.pass_gate(batch.first + place),
         None => None,
     };
 }
 
-/// Climbs on the networks of all workers but the first, each in a thread of its own.
-fn fill_others<R: Threads + Sync, P: NetworkList, B: ClimbGate>(
+/// Climbs on all networks of a batch, each worker on its own.
+fn fill_all<R: Threads + Sync, P: NetworkList, B: ClimbGate>(
     rt: &R,
-    dealt: &Dealt<'_, P, B>,
+    batch: &Batch<'_, P, B>,
     rows: &mut [Option<NetworkRow>],
 )
-    requires { dealt.now.deal.turns + length rows.old
-        ≡ dealt.now.deal.workers * dealt.now.deal.turns }
+    requires { length rows.old ≡ batch.now.deal.workers * batch.now.deal.turns }
     ensures len { length rows.new ≡ length rows.old }
     ensures made { (k : ℕ) (d : Option NetworkRow) → k < length rows.old
-        → Holds (row_at (P.list dealt.now.work.now.asked.now) dealt.now.work.now.net.now)
-        dealt.now.deal (dealt.now.deal.turns + k) (slice_index_or rows.new k d) }
+        → Holds (batch_row (P.list batch.now.work.now.asked.now)
+        batch.now.work.now.net.now batch.now.first) batch.now.deal k
+        (slice_index_or rows.new k d) }
 {
-    let deal = dealt.deal;
-    if deal.workers < 2 {
-        return;
-    }
     thread::for_each_mut(
         rt,
         rows,
-        deal.workers - 1,
-        &|place: usize, row: &mut Option<NetworkRow>|
-            requires { dealt.now.deal.turns + place
-                < dealt.now.deal.workers * dealt.now.deal.turns }
-        { fill(dealt, dealt.deal.turns + place, row) },
+        batch.deal.workers,
+        &|slot: usize, row: &mut Option<NetworkRow>|
+            requires { slot < batch.now.deal.workers * batch.now.deal.turns }
+        { fill(batch, slot, row) },
     );
 }
 
-/// Climbs on the networks of the first worker, and tells the sink how far the run is.
-fn fill_own<P: NetworkList, B: ClimbGate, K: Sink>(
-    dealt: &Dealt<'_, P, B>,
-    rows: &mut [Option<NetworkRow>],
-    sink: &mut K,
-)
-    requires { length rows.old ≡ dealt.now.deal.turns }
-    ensures len { length rows.new ≡ length rows.old }
-    ensures made { (k : ℕ) (d : Option NetworkRow) → k < length rows.old
-        → Holds (row_at (P.list dealt.now.work.now.asked.now) dealt.now.work.now.net.now)
-        dealt.now.deal k (slice_index_or rows.new k d) }
-    ensures written { K.written sink.new ≡ K.written sink.old }
-    ensures faults { K.faults sink.new ≡ K.faults sink.old }
-{
-    let mut progress = Progress::new(dealt.deal);
-    for slot in 0..rows.len() {
-        fill(dealt, slot, &mut rows[slot]);
-        progress.end_turn(dealt.work.alloc, rows[slot], sink);
-    }
-}
-
-/// Climbs on all networks: those of the first worker in this thread, which tells the sink how far the run is.
-fn fill_all<R: Threads + Sync, P: NetworkList, B: ClimbGate, K: Sink>(
-    rt: &R,
-    dealt: &Dealt<'_, P, B>,
-    rows: &mut [Option<NetworkRow>],
-    sink: &mut K,
-)
-    requires { length rows.old ≡ dealt.now.deal.workers * dealt.now.deal.turns }
-    ensures len { length rows.new ≡ length rows.old }
-    ensures made { (k : ℕ) (d : Option NetworkRow) → k < length rows.old
-        → Holds (row_at (P.list dealt.now.work.now.asked.now) dealt.now.work.now.net.now)
-        dealt.now.deal k (slice_index_or rows.new k d) }
-    ensures written { K.written sink.new ≡ K.written sink.old }
-    ensures faults { K.faults sink.new ≡ K.faults sink.old }
-{
-    let (own, others) = rows.split_at_mut(dealt.deal.turns);
-    let mut there = ||
-        requires { IsSync R.row × IsSync P.row × IsSync B.row
-            × (dealt.now.deal.turns + length others.now
-            ≡ dealt.now.deal.workers * dealt.now.deal.turns) }
-        ensures { (length others.exit.now ≡ length others.entry.now)
-            × ((k : ℕ) (d : Option NetworkRow) → k < length others.entry.now
-            → Holds (row_at (P.list dealt.entry.now.work.now.asked.now)
-            dealt.entry.now.work.now.net.now) dealt.entry.now.deal
-            (dealt.entry.now.deal.turns + k) (slice_index_or others.exit.now k d)) }
-    { fill_others(rt, dealt, others) };
-    let mut here = ||
-        requires { IsSync P.row × IsSync B.row × (length own.now ≡ dealt.now.deal.turns) }
-        ensures { (length own.exit.now ≡ length own.entry.now)
-            × ((k : ℕ) (d : Option NetworkRow) → k < length own.entry.now
-            → Holds (row_at (P.list dealt.entry.now.work.now.asked.now)
-            dealt.entry.now.work.now.net.now) dealt.entry.now.deal k
-            (slice_index_or own.exit.now k d))
-            × (K.written sink.exit.now ≡ K.written sink.entry.now)
-            × (K.faults sink.exit.now ≡ K.faults sink.entry.now) }
-    { fill_own(dealt, own, sink) };
-    thread::join_mut(rt, &mut there, &mut here);
-}
-
-/// The rows in the order of their places, or out of memory where one wasn't made.
-fn gathered(
-    alloc: Global,
-    deal: Deal,
+/// Adds the rows of a batch to those of the places before it, in the order of their places; out of memory where one
+/// wasn't made.
+fn gather<P: NetworkList, B>(
+    batch: &Batch<'_, P, B>,
     slots: &[Option<NetworkRow>],
-) -> Result<Vec<NetworkRow>, AllocError>
-    requires { length slots.now ≡ deal.workers * deal.turns }
-    ensures { IfOk result (λ rows. AreGathered deal slots.now rows.items) }
+    rows: &mut Vec<NetworkRow>,
+) -> Result<(), AllocError>
+    requires slots_len { length slots.now ≡ batch.now.deal.workers * batch.now.deal.turns }
+    requires made { (k : ℕ) (d : Option NetworkRow) → k < length slots.now
+        → Holds (batch_row (P.list batch.now.work.now.asked.now)
+        batch.now.work.now.net.now batch.now.first) batch.now.deal k
+        (slice_index_or slots.now k d) }
+    requires before { rows.old.items ≡ first_rows (P.list batch.now.work.now.asked.now)
+        batch.now.work.now.net.now batch.now.first }
+    ensures { IfOk result (λ _. rows.new.items
+        ≡ first_rows (P.list batch.now.work.now.asked.now) batch.now.work.now.net.now
+        (batch.now.first + batch.now.deal.count)) }
 {
-    let mut rows = Vec::new(alloc);
-    for place in 0..deal.count {
-        let Some(row) = slots[deal.slot_of(place)] else {
+    for place in 0..batch.deal.count {
+        let Some(row) = slots[batch.deal.slot_of(place)] else {
             return Err(AllocError);
         };
         rows.push(row)?;
     }
-    Ok(rows)
+    Ok(())
+}
+
+/// Climbs on the networks of a batch, and adds their rows to those of the places before it.
+fn climb_batch<R: Threads + Sync, P: NetworkList, B: ClimbGate>(
+    rt: &R,
+    batch: &Batch<'_, P, B>,
+    rows: &mut Vec<NetworkRow>,
+) -> Result<(), AllocError>
+    requires { rows.old.items ≡ first_rows (P.list batch.now.work.now.asked.now)
+        batch.now.work.now.net.now batch.now.first }
+    ensures { IfOk result (λ _. rows.new.items
+        ≡ first_rows (P.list batch.now.work.now.asked.now) batch.now.work.now.net.now
+        (batch.now.first + batch.now.deal.count)) }
+{
+    let count = batch.deal.workers * batch.deal.turns;
+    let mut slots = vec![in batch.work.alloc; None; count]?;
+    fill_all(rt, batch, slots.as_mut_slice());
+    gather(batch, &slots, rows)
 }
 
 /// The table of a network: a row for each network that is made out of it, in their order.
 ///
-/// The networks are dealt to the workers from the last one on, and each climb stands between entering and leaving the
-/// gate. It is the table of one worker for every number of them. Out of memory in one climb is the answer for all.
+/// The networks are climbed on in batches. Those of a batch are dealt to the workers from the last one on, and each climb
+/// stands between entering and leaving the gate. It is the table of one worker for every number of them. Out of memory
+/// in one climb is the answer for all.
 ///
-/// The first worker tells the sink how far the run is, some fifty times at most and by the number of its climbs: how
-/// many are done, and the least index at the end of its own so far. Of fewer than four climbs nothing is told.
+/// After each batch but the last the sink is told how far the run is: how many climbs are done, and the least index at the
+/// end of one of them. That is fifty times at most. Of fewer than four climbs nothing is told.
 pub fn climb_networks<R: Threads + Sync, P: NetworkList, B: ClimbGate, K: Sink>(
     rt: &R,
     work: &Work<'_, P, B>,
@@ -157,8 +118,11 @@ pub fn climb_networks<R: Threads + Sync, P: NetworkList, B: ClimbGate, K: Sink>(
     ensures written { K.written sink.new ≡ K.written sink.old }
     ensures faults { K.faults sink.new ≡ K.faults sink.old }
 {
-    let deal = Deal::new(work.asked);
-    let mut slots = vec![in work.alloc; None; deal.workers * deal.turns]?;
-    fill_all(rt, &Dealt { work, deal }, slots.as_mut_slice(), sink);
-    gathered(work.alloc, deal, &slots)
+    let mut rows = Vec::new(work.alloc);
+    while rows.len() < work.asked.count() {
+        let batch = Batch::from(&*work, rows.len());
+        climb_batch(rt, &batch, &mut rows)?;
+        tell(work, &rows, sink);
+    }
+    Ok(rows)
 }

@@ -1,6 +1,6 @@
-//! The networks to climb on, as they are handed to all workers, and how they are dealt.
+//! The networks to climb on, as they are handed to all workers, and a batch of them.
 
-ghost use Rattle.std.specs.Prelude.{◌≡◌};
+ghost use Rattle.std.specs.Prelude.{◌≤◌, ◌+◌};
 
 use crate::deal::Deal;
 use crate::networks::NetworkList;
@@ -20,12 +20,15 @@ pub struct Work<'a, P, B> {
     pub gate: &'a B,
 }
 
-/// The same, with their places dealt to the workers.
+/// A batch of them: those of so many places from one on, dealt to the workers.
 #[derive(Drop)]
-pub(crate) struct Dealt<'a, P: NetworkList, B> {
+pub(crate) struct Batch<'a, P: NetworkList, B> {
     /// The networks.
     pub(crate) work: &'a Work<'a, P, B>,
-    /// Who climbs on which of them.
+    /// The first place of the batch.
+    pub(crate) first: usize,
+    /// Who climbs on which of them; the places are counted from the first.
     pub(crate) deal: Deal,
-    ghost all: { deal.count ≡ (P.list work.now.asked.now).count },
+    ghost within: { first + deal.count ≤ (P.list work.now.asked.now).count },
+    ghost most: { first + deal.count ≤ 1000 },
 }

@@ -45,6 +45,10 @@ impl NetworkList for CyclesList {
 
     ghost list = { λ self. cycles self.scan.asked.times };
 
+    fn noun(&self) -> &'static str {
+        self.scan.noun()
+    }
+
     fn workers(&self) -> usize {
         self.scan.workers()
     }

@@ -62,6 +62,10 @@ impl NetworkList for StartsList {
 
     ghost list = { λ self. starts self.asked.seed self.asked.count self.asked.from };
 
+    fn noun(&self) -> &'static str {
+        "start"
+    }
+
     fn workers(&self) -> usize {
         self.asked.workers as usize
     }
