@@ -56,10 +56,11 @@ pub(crate) fn three_tables(
     Ok((one, two, three))
 }
 
-/// The values of both versions of all rows of a size, all 0. They are filled row by row: the C library fills so few bytes by
-/// wide stores, and as many as a table has byte by byte.
+/// The values of both versions of all rows of a size, all 0. They are filled row by row, which takes fewer instructions than
+/// a whole table at once.
 fn empty_rows(alloc: Global, size: TableSize) -> Result<Vec<u64>, AllocError>
-    ensures { IfOk result (λ values. values.items ≡ replicate (2 * size.row_count * size.step_count) 0) }
+    ensures { IfOk result (λ values. values.items
+        ≡ replicate (2 * size.row_count * size.step_count) 0) }
 {
     let mut values = Vec::with_capacity(alloc, size.value_count())?;
     for row in 0..2 * size.row_count as usize {

@@ -1,6 +1,6 @@
 -- The arrivals of a platoon within two turns round the cycle, while its second turn goes by.
-use Rattle.std.proofs.Common.{◌≡◌, ℕ, suc, ◌+◌, ◌-◌, ◌%◌, ◌<◌, ◌≤◌, List, [], ◌∷◌, length, get_or, sum_by}
-use Rattle.std.proofs.Common.{refl, ap, sym, ◌∙◌, arith, All}
+use Rattle.std.proofs.Common.{◌≡◌, ℕ, suc, ◌+◌, ◌-◌, ◌*◌, ◌%◌, ◌^◌, ◌<◌, ◌≤◌, List, [], ◌∷◌, length, get_or, sum_by}
+use Rattle.std.proofs.Common.{refl, ap, subst, sym, ◌∙◌, arith, All}
 use Rattle.std.proofs.lemmas.List.Sums.{sum_by-cons}
 use Rattle.std.proofs.Math.Logic.{⊎_elim}
 use Rattle.std.proofs.Math.Nat.{mod-lt, mod-eq_of_lt}
@@ -11,8 +11,10 @@ use Rattle.transyt_cycle.specs.Cycle.{minus_mod}
 use Rattle.transyt_cycle.proofs.CycleLaws.{minus_mod-above, minus_mod-under}
 use Rattle.transyt_profile.specs.Platoon.{dispersed_at}
 use Rattle.transyt_profile.specs.Arriving.{arriving, sent}
-use Rattle.transyt_profile.specs.Passing.{arrived, arrived_by, gone_by, steps_of}
+use Rattle.transyt_profile.specs.Passing.{HavePassed, arrived, arrived_by, gone_by, steps_of}
 use Rattle.transyt_profile.proofs.Turns.{length-sent}
+use Rattle.transyt_profile.specs.declared.group.Ready.{Ready}
+use Rattle.transyt_profile.specs.declared.passing.Passing.{Passing}
 use Rattle.transyt_profile.specs.declared.platoon.Platoon.{Platoon}
 
 -- one step more, which is added where it arrives
@@ -71,3 +73,28 @@ arriving_each n k (p ∷ ps) same inside =
 pub none_arrived : (j : ℕ) (ps : List Platoon) → sum_by (arrived 0 j) ps ≡ 0
 none_arrived j [] = refl
 none_arrived j (p ∷ ps) = grind (arith, nat_tests, sum_by-cons (arrived 0 j) p ps, none_arrived j ps)
+
+-- The first n steps of the second turn of each platoon have gone by, and have been added to two turns where they arrive.
+pub record HaveArrived (r : Ready) (old : List ℕ) (n : ℕ) (goings : List Passing) (turns : List ℕ) : Type 0 where
+  pub passed : HavePassed r.platoons.now (r.step_count + n) goings
+  pub sums : (j : ℕ) → get_or turns j 0 ≡ get_or old j 0 + sum_by (arrived n j) r.platoons.now
+  pub small : All (λ v. v < 2 ^ 48 + n * 2 ^ 24) turns
+
+-- one step more has arrived
+pub one_arrived : (r : Ready) (old : List ℕ) (n m : ℕ) (goings after : List Passing) (turns next : List ℕ) → n + 1 ≡ m
+    → HavePassed r.platoons.now (r.step_count + (n + 1)) after
+    → ((j : ℕ) → get_or next j 0 + sum_by (arrived n j) r.platoons.now
+    ≡ get_or turns j 0 + sum_by (arrived (n + 1) j) r.platoons.now)
+    → ((limit : ℕ) → All (λ v. v < limit) turns → All (λ v. v < limit + length r.platoons.now * 2 ^ 22) next)
+    → HaveArrived r old n goings turns → HaveArrived r old m after next
+one_arrived r old n m goings after turns next more passed arrives grows before =
+    subst (λ (k : ℕ). HaveArrived r old k after next) more (record {
+      passed = passed;
+      sums = λ j. omega (arith, arrives j, before.sums j);
+      small = λ k d below. omega (arith, grows _ before.small k d below, r.few);
+    })
+
+-- there is room for one step more
+pub arrived_room : (r : Ready) (old : List ℕ) (n : ℕ) (goings : List Passing) (turns : List ℕ) → n ≤ 120
+    → HaveArrived r old n goings turns → All (λ v. v < 2 ^ 61) turns
+arrived_room r old n goings turns few have k d below = omega (arith, have.small k d below, few)

@@ -83,22 +83,27 @@ impl<const N: usize> Abreast<'_, N> {
         self.arrive_turn(&mut goings, turns);
     }
 
-    /// The first turn of each platoon goes by, two steps at a time, so that there are half as many rounds of the loop.
+    /// The first turn of each platoon goes by: four steps at a time, so that there are a fourth of the rounds of the loop, and
+    /// then one by one.
     fn pass_turn(&self, goings: &mut [Passing; N])
         requires { HavePassed self.now.ready.platoons.now 0 goings.old }
         ensures { HavePassed self.now.ready.platoons.now self.now.ready.step_count goings.new }
     {
         let step_count = self.ready.step_count;
-        for pair in 0..step_count / 2 {
-            self.pass_each(2 * pair, goings);
-            self.pass_each(2 * pair + 1, goings);
+        let fours = step_count / 4;
+        for four in 0..fours {
+            let step = 4 * four;
+            self.pass_each(step, goings);
+            self.pass_each(step + 1, goings);
+            self.pass_each(step + 2, goings);
+            self.pass_each(step + 3, goings);
         }
-        if step_count % 2 == 1 {
-            self.pass_each(step_count - 1, goings);
+        for step in 4 * fours..step_count {
+            self.pass_each(step, goings);
         }
     }
 
-    /// The second turn of each platoon goes by, two steps at a time too, and each is added where it arrives.
+    /// The second turn of each platoon goes by, four steps at a time too, and each is added where it arrives.
     fn arrive_turn(&self, goings: &mut [Passing; N], turns: &mut [u64])
         requires passed { HavePassed self.now.ready.platoons.now self.now.ready.step_count goings.old }
         requires turns_len { length turns.old ≡ 2 * self.now.ready.step_count }
@@ -107,12 +112,16 @@ impl<const N: usize> Abreast<'_, N> {
             + sum_by (arrived self.now.ready.step_count j) self.now.ready.platoons.now }
     {
         let step_count = self.ready.step_count;
-        for pair in 0..step_count / 2 {
-            self.arrive_each(2 * pair, goings, turns);
-            self.arrive_each(2 * pair + 1, goings, turns);
+        let fours = step_count / 4;
+        for four in 0..fours {
+            let step = 4 * four;
+            self.arrive_each(step, goings, turns);
+            self.arrive_each(step + 1, goings, turns);
+            self.arrive_each(step + 2, goings, turns);
+            self.arrive_each(step + 3, goings, turns);
         }
-        if step_count % 2 == 1 {
-            self.arrive_each(step_count - 1, goings, turns);
+        for step in 4 * fours..step_count {
+            self.arrive_each(step, goings, turns);
         }
     }
 }

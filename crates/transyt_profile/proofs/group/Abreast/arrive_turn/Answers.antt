@@ -1,73 +1,74 @@
--- Both steps of a pair go by and arrive, and an odd last one.
-use Rattle.std.proofs.Common.{◌≡◌, ℕ, ◌+◌, ◌*◌, ◌^◌, ◌<◌, ◌-◌, sum_by, ap, arith, All}
-use Rattle.transyt_profile.specs.Passing.{arrived}
-use Rattle.transyt_profile.proofs.Arrived.{none_arrived}
+-- Four steps go by and arrive, or one.
+use Rattle.std.proofs.Common.{ℕ, ◌+◌, ◌*◌, ◌^◌, ◌<◌, arith}
+use Rattle.transyt_profile.proofs.Arrived.{arrived_room, none_arrived, one_arrived}
 use Rattle.transyt_profile.proofs.Turns.{have_passed_at}
 use Rattle.transyt_profile.proofs.group.Abreast.arrive_turn.Goals as goal
 
 -- nothing has arrived yet
-pub loop-pair-init : goal.loop-pair-init
-loop-pair-init g c = record {
+pub loop-four-init : goal.loop-four-init
+loop-four-init g c = record {
   passed = have_passed_at _ _ _ _ (omega arith) c.requires.passed;
   sums = λ j. omega (arith, none_arrived j c.args.self.now.ready.platoons.now);
   small = c.requires.fit;
 }
 
-pub arrive_each-requires-in-loop-pair : goal.arrive_each-requires-in-loop-pair
-arrive_each-requires-in-loop-pair g c =
-    let few : g.row.N * 24 < 2 ^ 63 = omega (arith, c.args.self.now.count, c.args.self.now.ready.few) in
-    let fit : All (λ v. v < 2 ^ 61) c.arrive_each.new.turns = λ k d h.
-    omega (
-      arith,
-      c.arrive_each.ensures.grows _ c.loop-pair.invariant.small k d h,
-      c.args.self.now.ready.few,
-      c.args.self.now.ready.most,
-    ) in
-    (omega arith, (few, (omega arith, (c.arrive_each.ensures.passed, (omega arith, fit)))))
+pub arrive_each-requires : goal.arrive_each-requires
+arrive_each-requires g c =
+    let r = c.args.self.now.ready in
+    let few : g.row.N * 24 < 2 ^ 63 = omega (arith, c.args.self.now.count, r.few) in
+    let fit = arrived_room _ _ _ _ _ (omega (arith, r.most)) c.loop-four.invariant in
+    (omega arith, (few, (omega arith, (c.loop-four.invariant.passed, (omega arith, fit)))))
 
-pub loop-pair-preserved : goal.loop-pair-preserved
-loop-pair-preserved g c =
-    let i : ℕ = 2 * c.loop-pair.pair in
-    let next : i + 1 + 1 ≡ 2 * (c.loop-pair.pair + 1) = omega arith in
-    record {
-      passed = have_passed_at _ _ _ _ (omega arith) c.arrive_each-in-loop-pair.ensures.passed;
-      sums = λ j. omega (
-        arith,
-        c.loop-pair.invariant.sums j,
-        c.arrive_each.ensures.arrives j,
-        c.arrive_each-in-loop-pair.ensures.arrives j,
-        ap (λ m. sum_by (arrived m j) c.args.self.now.ready.platoons.now) next,
-      );
-      small = λ k d h. omega (
-        arith,
-        c.arrive_each-in-loop-pair.ensures.grows _ (c.arrive_each.ensures.grows _ c.loop-pair.invariant.small) k d h,
-        c.args.self.now.ready.few,
-      );
-    }
+pub arrive_each-requires-in-loop-four : goal.arrive_each-requires-in-loop-four
+arrive_each-requires-in-loop-four g c =
+    let r = c.args.self.now.ready in
+    let few : g.row.N * 24 < 2 ^ 63 = omega (arith, c.args.self.now.count, r.few) in
+    let i : ℕ = 4 * c.loop-four.four in
+    let one = one_arrived r _ i (i + 1) _ _ _ _ (omega arith) c.arrive_each.ensures.passed
+    c.arrive_each.ensures.arrives c.arrive_each.ensures.grows c.loop-four.invariant in
+    let fit = arrived_room _ _ _ _ _ (omega (arith, r.most)) one in
+    (omega arith, (few, (omega arith, (one.passed, (omega arith, fit)))))
 
--- the odd last step is the one after the pairs
-pub arrive_each-requires-then-step_count-eq1 : goal.arrive_each-requires-then-step_count-eq1
-arrive_each-requires-then-step_count-eq1 g c =
-    let few : g.row.N * 24 < 2 ^ 63 = omega (arith, c.args.self.now.count, c.args.self.now.ready.few) in
-    let fit : All (λ v. v < 2 ^ 61) c.loop-pair.turns = λ k d h.
-    omega (arith, c.loop-pair.invariant.small k d h, c.args.self.now.ready.most) in
-    (omega arith, (few, (omega arith, (have_passed_at _ _ _ _ (omega arith) c.loop-pair.invariant.passed, (omega arith, fit)))))
+pub arrive_each-requires-in-loop-four-2 : goal.arrive_each-requires-in-loop-four-2
+arrive_each-requires-in-loop-four-2 g c =
+    let r = c.args.self.now.ready in
+    let few : g.row.N * 24 < 2 ^ 63 = omega (arith, c.args.self.now.count, r.few) in
+    let i : ℕ = 4 * c.loop-four.four in
+    let one = one_arrived r _ i (i + 1) _ _ _ _ (omega arith) c.arrive_each.ensures.passed
+    c.arrive_each.ensures.arrives c.arrive_each.ensures.grows c.loop-four.invariant in
+    let two = one_arrived r _ (i + 1) (i + 2) _ _ _ _ (omega arith) c.arrive_each-in-loop-four.ensures.passed
+    c.arrive_each-in-loop-four.ensures.arrives c.arrive_each-in-loop-four.ensures.grows one in
+    let fit = arrived_room _ _ _ _ _ (omega (arith, r.most)) two in
+    (omega arith, (few, (omega arith, (two.passed, (omega arith, fit)))))
 
-pub returns-then-step_count-eq1 : goal.returns-then-step_count-eq1
-returns-then-step_count-eq1 g c = λ j.
-    let n : ℕ = c.args.self.now.ready.step_count in
-    let last : 2 * c.loop-pair.pair ≡ n - 1 = omega arith in
-    let end : n - 1 + 1 ≡ n = omega arith in
-    omega (
-      arith,
-      c.loop-pair.invariant.sums j,
-      c.arrive_each-then-step_count-eq1.ensures.arrives j,
-      ap (λ m. sum_by (arrived m j) c.args.self.now.ready.platoons.now) last,
-      ap (λ m. sum_by (arrived m j) c.args.self.now.ready.platoons.now) end,
-    )
+pub arrive_each-requires-in-loop-four-3 : goal.arrive_each-requires-in-loop-four-3
+arrive_each-requires-in-loop-four-3 g c =
+    let r = c.args.self.now.ready in
+    let few : g.row.N * 24 < 2 ^ 63 = omega (arith, c.args.self.now.count, r.few) in
+    let i : ℕ = 4 * c.loop-four.four in
+    let one = one_arrived r _ i (i + 1) _ _ _ _ (omega arith) c.arrive_each.ensures.passed
+    c.arrive_each.ensures.arrives c.arrive_each.ensures.grows c.loop-four.invariant in
+    let two = one_arrived r _ (i + 1) (i + 2) _ _ _ _ (omega arith) c.arrive_each-in-loop-four.ensures.passed
+    c.arrive_each-in-loop-four.ensures.arrives c.arrive_each-in-loop-four.ensures.grows one in
+    let three = one_arrived r _ (i + 2) (i + 3) _ _ _ _ (omega arith) c.arrive_each-in-loop-four-2.ensures.passed
+    c.arrive_each-in-loop-four-2.ensures.arrives c.arrive_each-in-loop-four-2.ensures.grows two in
+    let fit = arrived_room _ _ _ _ _ (omega (arith, r.most)) three in
+    (omega arith, (few, (omega arith, (three.passed, (omega arith, fit)))))
 
--- the pairs of an even number are all of it
-pub returns-else-step_count-eq1 : goal.returns-else-step_count-eq1
-returns-else-step_count-eq1 g c = λ j.
-    let all : 2 * c.loop-pair.pair ≡ c.args.self.now.ready.step_count = omega arith in
-    omega (arith, c.loop-pair.invariant.sums j, ap (λ m. sum_by (arrived m j) c.args.self.now.ready.platoons.now) all)
+pub loop-four-preserved : goal.loop-four-preserved
+loop-four-preserved g c =
+    let r = c.args.self.now.ready in
+    let i : ℕ = 4 * c.loop-four.four in
+    let one = one_arrived r _ i (i + 1) _ _ _ _ (omega arith) c.arrive_each.ensures.passed
+    c.arrive_each.ensures.arrives c.arrive_each.ensures.grows c.loop-four.invariant in
+    let two = one_arrived r _ (i + 1) (i + 2) _ _ _ _ (omega arith) c.arrive_each-in-loop-four.ensures.passed
+    c.arrive_each-in-loop-four.ensures.arrives c.arrive_each-in-loop-four.ensures.grows one in
+    let three = one_arrived r _ (i + 2) (i + 3) _ _ _ _ (omega arith) c.arrive_each-in-loop-four-2.ensures.passed
+    c.arrive_each-in-loop-four-2.ensures.arrives c.arrive_each-in-loop-four-2.ensures.grows two in
+    one_arrived r _ (i + 3) _ _ _ _ _ (omega arith) c.arrive_each-in-loop-four-3.ensures.passed
+    c.arrive_each-in-loop-four-3.ensures.arrives c.arrive_each-in-loop-four-3.ensures.grows three
+
+pub loop-step-preserved : goal.loop-step-preserved
+loop-step-preserved g c =
+    one_arrived c.args.self.now.ready _ c.loop-step.step _ _ _ _ _ (omega arith) c.arrive_each-in-loop-step.ensures.passed
+    c.arrive_each-in-loop-step.ensures.arrives c.arrive_each-in-loop-step.ensures.grows c.loop-step.invariant

@@ -1,12 +1,11 @@
--- After so many pairs of steps each place has its value from before and the arrivals of all platoons so far.
-use Rattle.std.proofs.Common.{◌≡◌, ℕ, ◌+◌, ◌*◌, ◌^◌, ◌<◌, get_or, sum_by, All}
-use Rattle.transyt_profile.specs.Passing.{HavePassed, arrived}
+-- After so many rounds four times as many steps have arrived, and then one more in each: each place has its value from
+-- before and the arrivals of all platoons so far.
+use Rattle.std.proofs.Common.{◌*◌}
+use Rattle.transyt_profile.proofs.Arrived.{HaveArrived}
 use Rattle.transyt_profile.proofs.group.Abreast.arrive_turn.Given as goal
 
-abbrev pub invariant-loop-pair : goal.invariant-loop-pair
-invariant-loop-pair g l = record {
-  passed : HavePassed l.self.ready.platoons.now (l.self.ready.step_count + 2 * l.pair) l.goings;
-  sums : (j : ℕ) → get_or l.turns j 0
-      ≡ get_or l.initial.turns j 0 + sum_by (arrived (2 * l.pair) j) l.self.ready.platoons.now;
-  small : All (λ v. v < 2 ^ 48 + l.pair * 2 ^ 25) l.turns;
-}
+abbrev pub invariant-loop-four : goal.invariant-loop-four
+invariant-loop-four g l = HaveArrived l.self.ready l.initial.turns (4 * l.four) l.goings l.turns
+
+abbrev pub invariant-loop-step : goal.invariant-loop-step
+invariant-loop-step g l = HaveArrived l.self.ready l.fn.turns l.step l.goings l.turns

@@ -1,20 +1,23 @@
--- Both steps of a pair go by, and an odd last one.
+-- Four steps go by, or one.
 use Rattle.std.proofs.Common.{◌*◌, ◌^◌, ◌<◌, arith}
 use Rattle.transyt_profile.proofs.Turns.{have_passed_at}
 use Rattle.transyt_profile.proofs.group.Abreast.pass_turn.Goals as goal
 
-pub loop-pair-preserved : goal.loop-pair-preserved
-loop-pair-preserved g c = have_passed_at _ _ _ _ (omega arith) c.pass_each-in-loop-pair.ensures
-
--- the odd last step is the one after the pairs
-pub pass_each-requires-then-step_count-eq1 : goal.pass_each-requires-then-step_count-eq1
-pass_each-requires-then-step_count-eq1 g c =
+pub pass_each-requires-in-loop-four-2 : goal.pass_each-requires-in-loop-four-2
+pass_each-requires-in-loop-four-2 g c =
     let few : g.row.N * 24 < 2 ^ 63 = omega (arith, c.args.self.now.count, c.args.self.now.ready.few) in
-    (omega arith, (few, (omega arith, have_passed_at _ _ _ _ (omega arith) c.loop-pair.invariant)))
+    (omega arith, (few, (omega arith, have_passed_at _ _ _ _ (omega arith) c.pass_each-in-loop-four.ensures)))
 
-pub returns-then-step_count-eq1 : goal.returns-then-step_count-eq1
-returns-then-step_count-eq1 g c = have_passed_at _ _ _ _ (omega arith) c.pass_each-then-step_count-eq1.ensures
+pub pass_each-requires-in-loop-four-3 : goal.pass_each-requires-in-loop-four-3
+pass_each-requires-in-loop-four-3 g c =
+    let few : g.row.N * 24 < 2 ^ 63 = omega (arith, c.args.self.now.count, c.args.self.now.ready.few) in
+    (omega arith, (few, (omega arith, have_passed_at _ _ _ _ (omega arith) c.pass_each-in-loop-four-2.ensures)))
 
--- the pairs of an even number are all of it
-pub returns-else-step_count-eq1 : goal.returns-else-step_count-eq1
-returns-else-step_count-eq1 g c = have_passed_at _ _ _ _ (omega arith) c.loop-pair.invariant
+pub loop-four-preserved : goal.loop-four-preserved
+loop-four-preserved g c = have_passed_at _ _ _ _ (omega arith) c.pass_each-in-loop-four-3.ensures
+
+pub loop-step-init : goal.loop-step-init
+loop-step-init g c = have_passed_at _ _ _ _ (omega arith) c.loop-four.invariant
+
+pub returns : goal.returns
+returns g c = have_passed_at _ _ _ _ (omega arith) c.loop-step.invariant
