@@ -13,11 +13,11 @@ pub(crate) const FEWEST_CLIMBS: usize = 4;
 const MOST_BATCHES: usize = 50;
 
 /// How many batches the run of several workers has at most: they wait for the slowest at the end of each.
-const MOST_JOINS: usize = 16;
+const MOST_JOINS: usize = 12;
 
-/// How many climbs of each worker a batch has at least where several climb and there are so many for two batches: over
-/// so many long and short ones even out.
-const FEWEST_TURNS: usize = 8;
+/// How many climbs of each worker a batch has at least where several climb, unless half of them all are fewer: over so
+/// many long and short ones even out.
+const FEWEST_TURNS: usize = 24;
 
 impl Deal {
     /// How many places each batch has where these are dealt batch by batch, the last perhaps fewer.
