@@ -15,4 +15,4 @@ mod reading;
 
 pub use command::{Command, Request};
 pub use laws::worked_lines;
-pub use reading::read_command;
+pub use reading::{is_command, read_command};

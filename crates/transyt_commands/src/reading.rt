@@ -9,7 +9,7 @@ ghost use Rattle.transyt_net.specs.declared.edit.Edit.TheVariants as edit;
 use crate::command::{Command, Request};
 use transyt_io::is_skipped;
 use transyt_net::{Edit, Weights};
-use transyt_syntax::{LineWords, Numbers, Refusal, is_word};
+use transyt_syntax::{Code, LineWords, Numbers, Refusal, is_word};
 
 /// Reads the command of a line; `None` for a comment or a blank line.
 ///
@@ -26,6 +26,14 @@ pub fn read_command(line: &[u8]) -> Result<Option<Command>, Refusal>
     }
     let words = LineWords::of(line);
     words.say(command_named(words.keyword, &words.further.numbers))
+}
+
+/// Whether a word is the keyword of a command.
+pub fn is_command(word: &[u8]) -> bool {
+    match read_command(word) {
+        Ok(command) => command.is_some(),
+        Err(refusal) => refusal.code() != Code::OddByte,
+    }
 }
 
 /// The least and the most numbers that a keyword takes, and the command that it is with these numbers.

@@ -12,7 +12,7 @@ ghost use Rattle.transyt_deck.specs.declared.card.Card.TheVariants as card;
 use crate::so_far::SoFar;
 use transyt_io::is_skipped;
 use transyt_net::{Feed, Frame, GiveWay, NewLink, Stage, Weights};
-use transyt_syntax::{Found, LineWords, NumberRange, Numbers, Refusal, is_word};
+use transyt_syntax::{Code, Found, LineWords, NumberRange, Numbers, Refusal, is_word};
 
 /// A card as it is read, whether or not it is in its place and its numbers are in their ranges.
 #[derive(Drop)]
@@ -73,6 +73,14 @@ pub(crate) fn read_card(form: u32, line: &[u8]) -> Result<Option<Card>, Refusal>
     }
     let words = LineWords::of(line);
     words.say(card_named(form, words.keyword, &words.further.numbers))
+}
+
+/// Whether a word is the keyword of a card.
+pub fn is_card(word: &[u8]) -> bool {
+    match read_card(1, word) {
+        Ok(card) => card.is_some(),
+        Err(refusal) => refusal.code() != Code::OddByte,
+    }
 }
 
 /// The least and the most numbers that a keyword takes in a deck of this form, and the card that it is with these.
@@ -273,28 +281,14 @@ fn sizes_in_range(step_count: u32, sizes: &[u32]) -> Result<(), Found>
 }
 
 impl Card {
-    /// Where a card of its kind may stand, in words.
-    pub(crate) fn place(&self) -> &'static str {
+    /// What has as many of these cards as it may have.
+    pub(crate) fn one_too_many(&self, so_far: &SoFar<'_>) -> Found {
         match self {
-            Card::Form(_) => "FORM stands first, and once",
-            Card::Cycle(_) => "CYCLE stands first or after FORM, and once",
-            Card::Node { .. } => "a NODE stands after CYCLE and before the first LINK",
-            Card::Stage(_) => "a STAGE stands after its NODE or after a STAGE of it",
-            Card::Link { .. } => "a LINK stands after the nodes and before the first FEED",
-            Card::Feed { .. } => "a FEED stands after the links and before STEPS",
-            Card::Yield { .. } => "a YIELD stands after the links and before STEPS",
-            Card::Steps { .. } => "STEPS stands before END, and once",
-            Card::End => "END stands after CYCLE",
-        }
-    }
-
-    /// How many cards of its kind there may be, in words.
-    pub(crate) fn most(&self) -> &'static str {
-        match self {
-            Card::Node { .. } => "a deck has at most 200 nodes",
-            Card::Stage(_) => "a node has at most 8 stages",
-            Card::Link { .. } => "a deck has at most 1000 links",
-            _ => "a link has at most 8 feeds",
+            Card::Node { .. } => Found::rule("there are 200 nodes already"),
+            Card::Stage(_) => rule("node # has 8 stages already", so_far.last_node(), 0),
+            Card::Link { .. } => Found::rule("there are 1000 links already"),
+            Card::Feed { link, .. } => rule("link # has 8 feeds already", *link, 0),
+            _ => Found::Nothing,
         }
     }
 

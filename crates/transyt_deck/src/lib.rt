@@ -27,7 +27,7 @@ mod reader;
 mod so_far;
 mod state;
 
-pub use card::Card;
+pub use card::{Card, is_card};
 pub use cut::{Cut, cut_deck};
 pub use deck_text::print_deck;
 pub use laws::{line_by_line, text_reads_back, worked_decks};

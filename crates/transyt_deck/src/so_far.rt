@@ -37,6 +37,14 @@ impl<'a> SoFar<'a> {
         self.step_count.max(1)
     }
 
+    /// The number of the last node; 0 where there is none.
+    pub(crate) fn last_node(&self) -> u32 {
+        match self.nodes.last() {
+            Some(node) => node.number,
+            None => 0,
+        }
+    }
+
     /// Whether there is a link with this number.
     pub(crate) fn has_link(&self, number: u32) -> bool {
         self.links.iter().any(|link| link.number == number)

@@ -124,6 +124,29 @@ impl State {
         }
     }
 
+    /// Which card keeps one that is out of its place from standing after these cards, in words.
+    fn in_the_way(&self, card: &Card) -> &'static str {
+        let State::Making { part, draft, .. } = self else {
+            return match card {
+                Card::Form(_) => "this card can't stand after a FORM",
+                _ => "this card can't stand before CYCLE",
+            };
+        };
+        match (card, part) {
+            (Card::Form(_) | Card::Cycle(_), _) => "this card can't stand after CYCLE",
+            (_, Part::Frame) => "this card can't stand before a NODE",
+            (_, Part::Nodes | Part::Links) => "this card can't stand after a LINK",
+            (_, Part::Feeds) => {
+                if draft.links().iter().any(|link| !link.feeds.is_empty()) {
+                    "this card can't stand after a FEED"
+                } else {
+                    "this card can't stand after a YIELD"
+                }
+            }
+            (_, Part::Plan | Part::End) => "this card can't stand after STEPS",
+        }
+    }
+
     /// Whether END was accepted.
     pub(crate) fn is_ended(&self) -> bool
         ensures open { (n : ℕ) → result ≡ false → is_open (deck_at n self.now) ≡ true }
@@ -159,8 +182,8 @@ fn explained(state: &State, card: &Card, code: Code) -> Refusal
 {
     let so_far = SoFar::of(state);
     let found = match code {
-        Code::OutOfPlace => Found::rule(card.place()),
-        Code::TooMany => Found::rule(card.most()),
+        Code::OutOfPlace => Found::rule(state.in_the_way(card)),
+        Code::TooMany => card.one_too_many(&so_far),
         Code::Twice => card.twice(&so_far),
         Code::Unknown => card.unknown(&so_far),
         Code::Range => Found::by(card_in_range(so_far.step_count(), card)),

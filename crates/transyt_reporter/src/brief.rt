@@ -11,6 +11,7 @@ ghost use Rattle.transyt_line_answers.specs.Commands.{climb_of};
 ghost use Rattle.transyt_reporter.specs.Conditions.{AreIdle};
 
 use crate::climbing::start_climber;
+use crate::remarks::remark_end;
 use crate::workers::{AnswerWriter, Workers};
 use std::alloc::Global;
 use std::sync::ledger::Ledger;
@@ -56,13 +57,14 @@ fn before_climb(session: &Session) -> Before
 }
 
 impl Brief {
-    /// Writes the line of the climb.
+    /// Writes the line of the climb, and tells how one goes on that ended with BUDGET.
     fn write<K: Sink>(self, line: &mut LineBuffer, sink: &mut K) -> Result<(), Failed>
         ensures { PrintsOn K.written K.faults sink.old sink.new result
             (form_line (brief_form self.local)
             (self.before.nodes ∷ self.before.links ∷ self.before.index ∷ self.took
             ∷ self.looked ∷ self.to ∷ [])) }
     {
+        remark_end(self.local, self.looked, sink);
         let numbers = [
             self.before.nodes as u128,
             self.before.links as u128,

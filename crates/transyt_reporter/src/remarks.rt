@@ -14,14 +14,22 @@ pub(crate) fn remark_card<K: Sink>(refused: &RefusedCard, sink: &mut K)
     sink.remark(sentence.bytes());
 }
 
-/// Tells why the command of the line with this number, from 1, was refused, if it was.
-pub(crate) fn remark_command<K: Sink>(number: u32, answer: &Answer, sink: &mut K)
+/// So many refused commands of a run are told one by one, and then each one of a hundred, with how many came since.
+const EACH_TOLD: u32 = 100;
+
+/// Tells why the command of the line with this number, from 1, was refused, if it was and is told: it is the refused
+/// command of the run with this count, from 1.
+pub(crate) fn remark_command<K: Sink>(number: u32, count: u32, answer: &Answer, sink: &mut K)
     ensures written { K.written sink.new ≡ K.written sink.old }
     ensures faults { K.faults sink.new ≡ K.faults sink.old }
 {
-    if let Answer::Refused(refusal) = answer {
-        let sentence = on_command(number, refusal);
-        sink.remark(sentence.bytes());
+    let Answer::Refused(refusal) = answer else {
+        return;
+    };
+    if count <= EACH_TOLD {
+        sink.remark(on_command(number, refusal, 0).bytes());
+    } else if count % EACH_TOLD == 0 {
+        sink.remark(on_command(number, refusal, EACH_TOLD - 1).bytes());
     }
 }
 

@@ -42,7 +42,7 @@ impl<R: Threads + Sync, G: Gate> AnswerWriter<'_, R, G> {
     {
         let answer = judge(desks.session_mut(), command, steps);
         self.count(&answer);
-        remark_command(self.number, &answer, sink);
+        remark_command(self.number, self.refused, &answer, sink);
         match self.write_answer(&answer, desks, sink, steps) {
             Ok(()) => Ok(answer.ending()),
             Err(Failed) => Err(Stop::Write),
