@@ -2,8 +2,8 @@
 
 WORDS are those that the program takes. It writes the same bytes and ends with the same number: 0 done, 1 these words are
 none, 2 the deck was refused, 3 a read failed, 4 a write failed, 6 too long, 7 the words can't be read. Of memory it says
-nothing (5). `version` is what ./transyt --version says; else nothing of the program or of the prover is read."""
-import os, subprocess, sys
+nothing (5). `version` is the line that docs/FORMATS.md has; nothing of the program or of the prover is read."""
+import os, re, sys
 from typing import Callable, Iterator, Optional
 
 import plans, tables, texts
@@ -16,12 +16,14 @@ ALONE = ('make', 'brief', 'version')  # they read nothing
 CLIMBED = {'starts': plans.starts, 'cycles': plans.cycles, 'scan': plans.scan}
 
 
-TRANSYT = os.path.join(os.path.dirname(os.path.abspath(__file__)), '../../transyt')
+FORMATS = os.path.join(os.path.dirname(os.path.abspath(__file__)), '../../docs/FORMATS.md')
 
 
 def version() -> str:
-    """The line that the word `version` writes: that of ./transyt --version."""
-    return subprocess.run(['sh', TRANSYT, '--version'], stdout=subprocess.PIPE, text=True).stdout.split('\n')[0]
+    """The line that the word `version` writes, as FORMATS has it."""
+    with open(FORMATS, encoding='utf-8') as it:
+        found = re.search(r'`(transyt [0-9.]+, kit [^`]+)`', it.read())
+    return found[1] if found else ''
 
 
 def is_worker(word: str) -> bool: return len(word) == 1 and word in '12345678'

@@ -38,6 +38,7 @@ pub(crate) struct Brief<'a, R, G> {
 }
 
 /// Writes the deck text of a town. All memory is taken before the first line is written.
+#[inline(never)]
 pub(crate) fn write_made<K: Sink>(alloc: Global, town: Town, sink: &mut K) -> Status
     requires { IsTown town }
     ensures outcome { TextOutcome (deck_text (made town.seed town.nodes)) false (K.written sink.old)
@@ -65,6 +66,7 @@ pub(crate) fn write_made<K: Sink>(alloc: Global, town: Town, sink: &mut K) -> St
 
 impl<'a, R: Threads + Sync, G: Gate> Brief<'a, R, G> {
     /// Climbs once, and writes the line of the climb. All memory is taken before it is written.
+    #[inline(never)]
     pub(crate) fn write<K: Sink, L: Ledger>(
         self,
         alloc: Global,

@@ -315,7 +315,8 @@ impl<'a, R, G: Gate> WordCall<'a, R, G> {
 }
 
 impl<'a, R: Threads + Sync, G: Gate> WordCall<'a, R, G> {
-    /// Does what the word asks for.
+    /// Does what the word asks for. Each word is a function of its own on the stack (`inline(never)`), so that none takes
+    /// the room of all.
     #[tactic(auto, using(crate::proofs::TaskLaws::no_steps))]
     pub(crate) fn answer<S: Source, K: Sink, L: Ledger>(
         &self,

@@ -1,5 +1,5 @@
 //! The desks of a network, or of a deck, are opened.
-ghost use Rattle.std.specs.Prelude.{◌≡◌, ◌≤◌, ◌+◌, ◌*◌, length, IfOk, OnOk, OnErr, IsTrue};
+ghost use Rattle.std.specs.Prelude.{◌≡◌, ◌≤◌, ◌+◌, ◌*◌, length, None, IfOk, OnOk, OnErr, IsTrue};
 ghost use Rattle.transyt_deck.specs.Deck.{is_complete};
 ghost use Rattle.transyt_session.specs.Session.{opened};
 ghost use Rattle.transyt_desks.specs.Desks.{desk_zero, opened_desks};
@@ -15,7 +15,30 @@ use transyt_net::Net;
 use transyt_session::Session;
 use transyt_steps::Steps;
 
+/// Opens a session of a network. What it moves on the stack is gone when it returns, before the desks are opened.
+#[inline(never)]
+fn open_session<L: Ledger>(
+    alloc: Global,
+    net: Net,
+    steps: &mut Steps<L>,
+) -> Result<Session, AllocError>
+    ensures value { IfOk result (λ session. session ≡ opened net) }
+    ensures ok { OnOk result (steps.new ≡ steps.old + net.frame.sweeps * length net.links) }
+    ensures err { OnErr result (steps.new ≤ steps.old + net.frame.sweeps * length net.links) }
+{
+    Session::open(alloc, net, steps)
+}
+
 impl<R, G> Workers<'_, R, G> {
+    /// Opens desks for the workers, with this session as desk 0.
+    #[inline(never)]
+    fn open_desks(&self, alloc: Global, session: Session) -> Result<Desks, AllocError>
+        requires { session.before ≡ None }
+        ensures { IfOk result (λ desks. desks ≡ opened_desks session self.now.count) }
+    {
+        Desks::open(alloc, session, self.count)
+    }
+
     /// Opens a session of a network, and desks for the workers: all memory of the commands is taken here.
     pub(crate) fn desks_of<L: Ledger>(
         &self,
@@ -27,8 +50,8 @@ impl<R, G> Workers<'_, R, G> {
         ensures ok { OnOk result (steps.new ≡ steps.old + net.frame.sweeps * length net.links) }
         ensures err { OnErr result (steps.new ≤ steps.old + net.frame.sweeps * length net.links) }
     {
-        let session = Session::open(alloc, net, steps)?;
-        Desks::open(alloc, session, self.count)
+        let session = open_session(alloc, net, steps)?;
+        self.open_desks(alloc, session)
     }
 
     /// Opens the desks of a complete deck.

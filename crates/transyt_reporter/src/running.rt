@@ -60,6 +60,7 @@ impl<R: Threads + Sync, G: Gate> Reporter<'_, R, G> {
 ///
 /// Each line is answered before the next is read, and each step of a climb is written before the next look. The memory
 /// for reading and writing is taken before the first read, and all other memory before the first line is written.
+#[inline(never)]
 pub fn run_deck<R: Threads + Sync, S: Source, K: Sink, G: Gate, L: Ledger>(
     workers: Workers<'_, R, G>,
     alloc: Global,

@@ -86,6 +86,7 @@ impl Buffers {
 impl<'a, R: Threads + Sync, W: DeckWord> HostedWord<'a, R, W> {
     /// Takes a source whole, and answers by a word what it gave. The memory for reading and writing is taken before the
     /// first read, and all other memory before the first line is written.
+    #[inline(never)]
     pub fn answer_whole<S: Source, K: Sink, L: Ledger>(
         &self,
         source: &mut S,
