@@ -48,6 +48,7 @@ impl<'a, R, G> Model for Reporter<'a, R, G> {
 
 impl<'a, R, G> Reporter<'a, R, G> {
     /// No line came. The memory for writing is taken here.
+    #[inline(never)]
     pub(crate) fn open(
         alloc: Global,
         workers: Workers<'a, R, G>,
