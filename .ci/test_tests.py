@@ -1,6 +1,8 @@
 """How tests.py counts: what rt ci, unittest and all.py say at their ends, and groups that end badly."""
 import contextlib
 import io
+import os
+import tempfile
 import unittest
 from typing import Tuple
 from unittest import mock
@@ -45,6 +47,19 @@ class Counting(unittest.TestCase):
             self.assertEqual(tests.unit_group("crates"), Count(0, 0))
             self.assertEqual(tests.unit_group("no/such/folder"), Count(0, 0))
         self.assertEqual(out.getvalue(), ".ci: crates has no tests\n.ci: no/such/folder has no tests\n")
+
+    def test_each_piece_of_the_script_is_a_test(self) -> None:
+        self.assertEqual(tests.pieces(), ["building", "first_look", "help", "install", "terminal", "version",
+                                          "without_kit", "words"])
+        with tempfile.TemporaryDirectory() as folder, contextlib.redirect_stdout(io.StringIO()) as out:
+            os.makedirs(f"{folder}/.ci/script")
+            texts = {"common": "exit 5", "a": ". .ci/script/common", "b": "true", "c": "exec sleep 99"}
+            for name, text in texts.items():
+                with open(f"{folder}/.ci/script/{name}", "w", encoding="ascii") as it:
+                    it.write(text)
+            with mock.patch("tests.ROOT", folder), mock.patch("tests.SECONDS", 5):
+                self.assertEqual(tests.script(), Count(1, 2))
+        self.assertEqual(out.getvalue(), ".ci: the script ./transyt\nc: it took too long\n")
 
     def end(self, status: str, line: str, groups: Count) -> Tuple[int, str]:
         """The exit number and the last line, where each group of unit tests has these numbers."""
