@@ -8,8 +8,9 @@ from typing import List, Tuple
 import support
 from transyt.deck import Deck, read_deck
 from transyt.faults import Fault
-from transyt.filing.checking import differences, first_difference, numbers_of, wrong_figure
+from transyt.filing.checking import differences, first_difference, numbers_of
 from transyt.filing.folder import read_folder, sheet_files
+from transyt.filing.shown import texts_of, wrong_figure, wrong_text
 
 
 def differing(*changes: Tuple[str, str]) -> List[Tuple[bool, str]]:
@@ -70,18 +71,32 @@ class Figures(unittest.TestCase):
     RIGHT = [("10", "LINK 1 DELAY", "1.0"), ("10", "LINK 1 AT", "20"), ("10", "LINK 1 AT", "10")]
 
     def test_as_they_are(self) -> None:
-        """In another order too: each is looked up at its own place, where it may stand twice."""
+        """In their order: a place may stand twice, as in seconds and in steps."""
         self.assertIsNone(wrong_figure(self.RIGHT, self.RIGHT))
-        self.assertIsNone(wrong_figure(self.RIGHT[::-1], self.RIGHT))
+        said = "LINK 1 AT is 10, shown as 10, on the page, and 10, 20, by plan.report at this place"
+        self.assertEqual(wrong_figure([self.RIGHT[0], self.RIGHT[2], self.RIGHT[1]], self.RIGHT), said)
 
     def test_what_is_wrong(self) -> None:
-        """A raw number, how it is shown, a place that there isn't, and one that is left out."""
+        """A raw number, how it is shown, a place that there isn't, one that is left out, and one more."""
         for raw, place, shown, there in (("11", "LINK 1 DELAY", "1.0", "10, 1.0,"),
                                          ("10", "LINK 1 DELAY", "1.1", "10, 1.0,"),
-                                         ("10", "LINK 2 DELAY", "1.0", "nothing")):
-            said = f"{place} is {raw}, shown as {shown}, on the page, and {there} in plan.report"
+                                         ("10", "LINK 2 DELAY", "1.0", "LINK 1 DELAY 10, 1.0,")):
+            said = f"{place} is {raw}, shown as {shown}, on the page, and {there} by plan.report at this place"
             self.assertEqual(wrong_figure([(raw, place, shown), *self.RIGHT[1:]], self.RIGHT), said)
-        self.assertEqual(wrong_figure(self.RIGHT[1:], self.RIGHT), "LINK 1 DELAY isn't on the page")
+        self.assertEqual(wrong_figure(self.RIGHT[:2], self.RIGHT),
+                         "LINK 1 AT isn't on the page, or not as often as in plan.report")
+        self.assertEqual(wrong_figure([*self.RIGHT, self.RIGHT[0]], self.RIGHT),
+                         "LINK 1 DELAY is on the page once more than it belongs there")
+
+    def test_texts_of_a_page(self) -> None:
+        """Titles, names, sums, the cells that name a row, and the mark; nothing of a picture, nor the page's words."""
+        page = ('<title>T</title><h1><bdi>T</bdi></h1><p class="mark">UNFINISHED: x</p><svg>\n<title>no</title></svg>'
+                '<td>11</td><td><bdi>north</bdi></td><td class="number"><data value="1" class="A">2</data></td>'
+                "<code>5f</code>")
+        self.assertEqual(texts_of(page), ["T", "T", "UNFINISHED", "11", "north", "5f"])
+        self.assertIsNone(wrong_text(["a"], ["a"]))
+        self.assertEqual(wrong_text(["b"], ["a"]), "b stands on the page where a belongs, by plan.deck")
+        self.assertEqual(wrong_text([], ["a"]), "nothing stands on the page where a belongs, by plan.deck")
 
     def test_numbers_of_a_sheet(self) -> None:
         """Rows without heads and names."""

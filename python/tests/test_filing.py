@@ -49,6 +49,25 @@ def swap_figures(files: Files) -> None:
     assert files["plan.html"] != text.encode("utf-8")
 
 
+def swap_shown(place: str) -> Change:
+    """What is shown of the first two figures of one place exchanged."""
+    def change(files: Files) -> None:
+        text = files["plan.html"].decode("utf-8")
+        one, other = list(re.finditer(f'class="{re.escape(place)}"[^>]*>([^<]*)<', text))[:2]
+        files["plan.html"] = (text[:one.start(1)] + other[1] + text[one.end(1):other.start(1)] + one[1]
+                              + text[other.end(1):]).encode("utf-8")
+
+    return change
+
+
+def swap_labels(files: Files) -> None:
+    """The numbers of two links exchanged, so that each row has the other's figures."""
+    text = files["plan.html"].decode("utf-8")
+    changed = text.replace("<td>11</td>", "\0").replace("<td>12</td>", "<td>11</td>").replace("\0", "<td>12</td>")
+    assert changed != text
+    files["plan.html"] = changed.encode("utf-8")
+
+
 @needs_program
 class Filing(unittest.TestCase):
     """The town of the sheets' tests, climbed until LOCAL and filed."""
@@ -168,7 +187,7 @@ class Filing(unittest.TestCase):
         os.symlink(os.path.join(self.folder, "elsewhere"), os.path.join(path, "plan.report"))
         findings = Check(path, self.program).run()
         self.assertEqual([finding.holds for finding in findings], [False])
-        self.assertIn("plan.report is no plain file", findings[0].sentence)
+        self.assertEqual(findings[0].sentence, "plan.report is no plain file")
 
     def test_another_program(self) -> None:
         """It is told with both versions, and fails where that is asked for."""
@@ -179,16 +198,53 @@ class Filing(unittest.TestCase):
         told = [finding for finding in self.checked(files, same_program=True) if "another one" in finding.sentence]
         self.assertEqual([finding.holds for finding in told], [False])
 
-    def test_another_version_of_the_package(self) -> None:
-        """Text and pictures aren't compared then, but each figure is."""
+    def of_another_version(self) -> Files:
+        """The folder as another version of the package would have filed it."""
         files = dict(self.files)
+        old = sum_of(files["plan.deck"])
         put("plan.deck", "* PLAN plan ", "* PLAN plan 0.")(files)
+        put("plan.html", "<bdi>plan ", "<bdi>plan 0.")(files)
+        put("plan.html", old, sum_of(files["plan.deck"]))(files)
+        return files
+
+    def test_another_version_of_the_package(self) -> None:
+        """It is told; text and pictures aren't compared then, but each figure is."""
+        files = self.of_another_version()
         put("plan.html", "<h2>Signals</h2>", "<h2>The signals</h2>")(files)
-        told = [finding for finding in self.checked(files) if "plan.html" in finding.sentence]
-        self.assertEqual([finding.holds for finding in told], [True])
-        swap_figures(files)
-        told = [finding for finding in self.checked(files) if "plan.html" in finding.sentence]
-        self.assertEqual([finding.holds for finding in told], [False])
+        findings = self.checked(files)
+        self.assertEqual([finding.sentence for finding in findings if not finding.holds], [])
+        told = " ".join(finding.sentence for finding in findings)
+        self.assertRegex(told, r"\./plan is another one: plan [0-9.]+, and plan 0\.[0-9.]+ was filed")
+        self.assertIn("other text and pictures, by plan 0.", told)
+
+    def test_figures_behind_another_version(self) -> None:
+        """Two figures exchanged, of two places or of one, and two rows' labels."""
+        for what, change in (("two delays", swap_figures), ("a queue", swap_shown("FIGURES LINK 11 QUEUE")),
+                             ("an AT", swap_shown("TIMING NODE 1 STAGE 2 AT")), ("labels", swap_labels)):
+            with self.subTest(what):
+                files = self.of_another_version()
+                change(files)
+                self.assertIn("plan.html: ", self.failing(files))
+
+    def test_lines_behind_another_version(self) -> None:
+        """Lines of plan.deck that the page has otherwise; the same with its sum on the page made to fit."""
+        for line, other in (("TITLE Two", "TITLE Too"), ("BY A.", "BY B."), ("DATE 2026", "DATE 2027"),
+                            ("PLAN plan 0.", "PLAN plan 2."), ("PROGRAM transyt", "PROGRAM transit")):
+            with self.subTest(line):
+                files = self.of_another_version()
+                old = sum_of(files["plan.deck"])
+                put("plan.deck", f"* {line}", f"* {other}")(files)
+                self.assertIn("plan.html: ", self.failing(files))
+                put("plan.html", old, sum_of(files["plan.deck"]))(files)
+                self.assertIn("belongs, by plan.deck", self.failing(files))
+
+    def test_a_program_that_says_nothing(self) -> None:
+        """It is told in a sentence, and nothing else is asked of it."""
+        path = os.path.join(tempfile.mkdtemp(dir=self.folder), "filed")
+        write_folder(path, self.files)
+        silent = shutil.which("true") or "/bin/true"
+        last = Check(path, Program(silent)).run()[-1]
+        self.assertEqual((last.holds, last.sentence), (False, f"the program {silent} doesn't tell its version"))
 
     def test_an_unfinished_plan(self) -> None:
         """Refused; filed with --unfinished, which its deck and page say, and checked as such."""
@@ -226,7 +282,8 @@ class Filing(unittest.TestCase):
             page = file.read()
         for how in ([], ["--same-program"], ["--again"]):
             done = self.command("check", path, *how)
-            last = done.stdout.strip().split("\n")[-1]
+            before, last = done.stdout.strip().split("\n")[-2:]
+            self.assertIn("a folder made anew as a whole isn't found here", before)
             self.assertEqual((done.returncode, last[:6]), (0, "HOLDS "), done.stdout)
             self.assertIn(last[6:], page)
         self.assertIn(f"{len(moves(self.deck))} moves are worked out from nothing", done.stderr)

@@ -38,6 +38,10 @@ def find_program(path: Optional[str] = None) -> str:
     return found
 
 
+class Silent(Fault):
+    """A program that can be started, and doesn't tell its version: it is another one."""
+
+
 @dataclass(frozen=True)
 class Answer:
     """What the program wrote to an input: its lines, its exit number, and its standard error's last lines."""
@@ -86,7 +90,10 @@ class Program:
 
     def version(self) -> str:
         """The program's name and version, as the word version writes it."""
-        return self.answer(["version"])[0]
+        answer = self.ask(["version"])
+        if answer.status or not answer.lines:
+            raise Silent(f"the program {self.path} doesn't tell its version")
+        return answer.lines[0]
 
     def balance(self, deck: Deck) -> Tuple[Balance, ...]:
         """The stage lengths of equal saturation at each node."""

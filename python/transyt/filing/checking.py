@@ -12,19 +12,18 @@ from typing import Dict, List, Mapping, Optional, Sequence, Tuple
 
 from ..deck import Deck, cards_of, has_end, read_deck
 from ..faults import Fault
-from ..html import FIGURE
 from ..names import Tell, ignore
-from ..program import Program
+from ..program import Program, Silent
 from ..sheets import make_deck, read_sheets
 from ..sheets.hour import read_window
 from ..text import decoded, lines_of
 from .commands import FiledReport, commands_of
 from .controller import controller_sheet
-from .folder import (CERTIFICATE, CONTROLLER, DECK, FILES, PAGE, REPORT, SHEETS, SUMS, Filed, read_filed, read_folder,
-                     sum_of, sums_text)
+from .folder import (CERTIFICATE, CONTROLLER, DECK, FILES, PAGE, REPORT, SHEETS, SUMS, Filed, not_plain, read_filed,
+                     read_folder, sum_of, sums_text)
+from .shown import wrong_shown
 from .witness import Witness
 from .writing import filed_certificate, filed_page, plan_name, program_sum
-
 
 
 @dataclass(frozen=True)
@@ -65,8 +64,7 @@ class Check:
         if not self.check_commands(text, deck):
             return self.findings
         self.check_sheets(filed, deck)
-        self.check_maker(filed)
-        report = self.check_report(deck)
+        report = self.check_report(deck) if self.check_maker(filed) else None
         if report:
             self.check_certificate(filed, deck, report)
             self.check_controller(report, filed)
@@ -79,7 +77,8 @@ class Check:
 
     def check_files(self) -> bool:
         """The folder has exactly the files of a filing, all of them plain, with the sums that SHA256SUMS tells."""
-        faults = list(self.odd) + [f"{name} isn't there" for name in (*FILES, SUMS) if name not in self.files]
+        faults = list(self.odd) + [f"{name} isn't there" for name in (*FILES, SUMS)
+                                   if name not in self.files and not_plain(name) not in self.odd]
         self.note(not faults, f"the folder has the {len(self.files)} files of a filed plan", "; ".join(faults))
         if faults:
             return False
@@ -100,18 +99,21 @@ class Check:
         return self.note(has_end(text) and after == wanted, "after END stand the commands of a filed plan, and no edit",
                          sentence)
 
-    def check_maker(self, filed: Filed) -> None:
-        """The program is the one that was filed, or another one that is told."""
+    def check_maker(self, filed: Filed) -> bool:
+        """The program and the package are those that made the filing, or others that are told; whether one answers."""
+        if filed.plan != plan_name():
+            self.note(True, f"./plan is another one: {plan_name()}, and {filed.plan} was filed")
         if self.program is None:
-            self.note(True, "checked again without the program, by examples/check")
-            return
-        version, total = self.program.version(), program_sum(self.program)
-        same = (version, total) == (filed.program, filed.program_sum)
-        if same:
-            self.note(True, f"the program is the one that was filed: {version}")
-        else:
-            self.note(not self.same_program, f"the program is another one: {version} ({total[:16]}..), and "
-                                             f"{filed.program} ({filed.program_sum[:16]}..) was filed")
+            return self.note(True, "checked again without the program, by examples/check")
+        try:
+            version, total = self.program.version(), program_sum(self.program)
+        except Silent as fault:
+            return self.note(False, "", str(fault))
+        if (version, total) == (filed.program, filed.program_sum):
+            return self.note(True, f"the program is the one that was filed: {version}")
+        self.note(not self.same_program, f"the program is another one: {version} ({total[:16]}..), and "
+                                         f"{filed.program} ({filed.program_sum[:16]}..) was filed")
+        return True
 
     def check_report(self, deck: Deck) -> Optional[FiledReport]:
         """plan.report is the answer to plan.deck, to the byte."""
@@ -157,19 +159,19 @@ class Check:
                   f"{first_difference(found, wanted)}: TIMING gives another")
 
     def check_page(self, report: FiledReport, filed: Filed) -> None:
-        """The page is made again and compared; of another version of the package each figure is, at its own place."""
+        """The page is made again and compared; of another version of the package each figure is, at its own place, and
+        what comes out of the deck: title, names, date, row labels, sum."""
         found, wanted = self.text(PAGE), filed_page(report, filed, sum_of(self.files[DECK]))
         if found == wanted:
             self.note(True, f"{PAGE} is the page of {REPORT}")
             return
-        figures = FIGURE.findall(found)
-        wrong = wrong_figure(figures, FIGURE.findall(wanted))
+        wrong = wrong_shown(found, wanted)
         if wrong or filed.plan == plan_name():
             self.note(False, "", f"{PAGE}: {wrong}" if wrong else
                       f"{PAGE}, line {first_difference(found, wanted)}: it isn't the page of {REPORT}")
         else:
-            self.note(True, f"{PAGE} has the {len(figures)} figures of {REPORT}; text and pictures, by {filed.plan}, "
-                      "weren't compared")
+            self.note(True, f"{PAGE} has the figures of {REPORT} and the names of {DECK}; other text and pictures, by "
+                      f"{filed.plan}, weren't compared")
 
     def check_sheets(self, filed: Filed, deck: Deck) -> None:
         """The sheets are those that were filed, and the deck is what they give."""
@@ -201,19 +203,6 @@ class Check:
         alone = next(iter(there)) if len(there) == 1 else ""
         path = os.path.join(folder, alone) if alone.endswith(".xlsx") else folder
         return make_deck(read_sheets(path), read_window(words[1], int(words[3]))).deck
-
-
-def wrong_figure(figures: Sequence[Sequence[str]], right: Sequence[Sequence[str]]) -> Optional[str]:
-    """What is wrong with the figures of a page, each looked up at its own place; None where nothing is."""
-    known: Dict[str, List[Tuple[str, str]]] = {}
-    for raw, place, shown in right:
-        known.setdefault(place, []).append((raw, shown))
-    for raw, place, shown in figures:
-        if (raw, shown) not in known.get(place, []):
-            told = " or ".join(f"{one}, {other}," for one, other in known.get(place, [])) or "nothing"
-            return f"{place} is {raw}, shown as {shown}, on the page, and {told} in {REPORT}"
-    missing = [place for place in known if place not in {place for _, place, _ in figures}]
-    return f"{missing[0]} isn't on the page" if missing else None
 
 
 def numbers_of(sheet: str) -> List[List[str]]:

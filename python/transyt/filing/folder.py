@@ -108,10 +108,15 @@ def read_folder(path: str) -> Tuple[Dict[str, bytes], List[str]]:
     return files, faults
 
 
+def not_plain(name: str) -> str:
+    """The sentence of a link, a folder and the like in a file's place."""
+    return f"{name} is no plain file"
+
+
 def take(path: str, name: str, files: Dict[str, bytes], faults: List[str]) -> None:
     """Takes a plain file."""
     if os.path.islink(path) or not os.path.isfile(path):
-        faults.append(f"{name} is no plain file")
+        faults.append(not_plain(name))
         return
     with open(path, "rb") as file:
         files[name] = file.read()

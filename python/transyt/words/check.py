@@ -16,6 +16,9 @@ from ..terminal import progress, tell, write
 from ..text import decoded, escaped
 
 
+PAPER = "a folder made anew as a whole isn't found here: compare the sum below with that on the signed paper"
+
+
 def add_arguments(parser: argparse.ArgumentParser) -> None:
     """The folder."""
     parser.add_argument("folder", metavar="FOLDER")
@@ -46,5 +49,6 @@ def run(args: argparse.Namespace) -> int:
         write("DOES NOT HOLD\n")
         return 1
     finished = read_filed(decoded(data)).finished
+    write(f"{PAPER}\n")
     write(f"{'HOLDS' if finished else 'HOLDS, UNFINISHED'} {sum_of(data)}\n")
     return 0
