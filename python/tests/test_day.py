@@ -201,9 +201,31 @@ class Stress(unittest.TestCase):
         self.assertEqual(rows[0].standing, standing)
         assert rows[0].climbed is not None
         self.assertLessEqual(rows[0].climbed.index, standing.index)
-        self.assertEqual((rows[1].standing, rows[1].climbed), (None, None))
+        self.assertEqual([row.factor for row in rows], [1])
         self.assertEqual(len(said), 1)
         self.assertIn("at 2 a flow passes 9,999", said[0])
+
+    def test_a_deck_without_steps(self) -> None:
+        """It isn't climbed anew, which is told once."""
+        said: List[str] = []
+        rows = stressed(read_deck(support.THREE.replace("STEPS 200 1 3\n", "")), [Fraction(1), Fraction(8, 10)], 1,
+                        PROGRAM, said.append)
+        self.assertEqual([row.climbed for row in rows], [None, None])
+        self.assertEqual(said, ["the deck has no STEPS card, and so no moves to climb by: the plan is kept, and not "
+                                "climbed anew"])
+
+    def test_the_command_leaves_a_factor_out(self) -> None:
+        """No row of it, no head where no row is left; the reserves stand in any case."""
+        text = support.THREE.replace("LINK 12 1 300", "LINK 12 1 6000")
+        for factors, heads in ((["0.8", "2"], ["flows", "0.80", "reserve"]), (["2"], ["reserve"])):
+            words = [sys.executable, "-m", "transyt", "stress", "-", "--factors", *factors, "--program", str(PROGRAM)]
+            done = subprocess.run(words, input=text, capture_output=True, text=True, timeout=60, check=False,
+                                  env={**os.environ, "PYTHONPATH": os.path.join(ROOT, "python")})
+            self.assertEqual(done.returncode, 0, done.stderr)
+            firsts = [line.split()[0] for line in done.stdout.split("\n")[:-1]]
+            self.assertEqual(firsts[:len(heads)], heads)
+            self.assertEqual(len(firsts), len(heads) + 3)
+            self.assertIn("at 2 a flow passes 9,999", done.stderr)
 
     def test_the_command(self) -> None:
         """A row a factor, and the reserve of each junction of the plan, whatever the factors are."""

@@ -9,11 +9,11 @@ from xml.etree import ElementTree
 import support
 from support import PROGRAM, needs_program
 from transyt import pictures
-from transyt.comparing import DIFFERENT, as_csv, as_text, cells_of, compared, totals_of
+from transyt.comparing import DIFFERENT, MEASURES, Pair, as_csv, as_text, compared
 from transyt.deck import read_deck
 from transyt.faults import Fault
 from transyt.html import CSS, SCRIPT, digest
-from transyt.page import ended_text, page, seconds_text
+from transyt.page import comparison_part, ended_text, page, pair_cells, seconds_text
 from transyt.pictures.climbing import looks_of
 from transyt.pictures.roads import heights_of, lengths_of, to_scale
 from transyt.report import Certificate, Move, Step
@@ -218,12 +218,13 @@ class Pages(unittest.TestCase):
         with Session(support.THREE.replace("NODE 2 3", "NODE 2 9"), 1, PROGRAM) as town:
             comparison = compared(self.town, town)
             more = town.index() - self.town.index()
-        self.assertEqual(totals_of(comparison)[2][3], f"{more:+d}")
+        self.assertEqual(comparison.totals[2].cells()[2], f"{more:+d}")
         row = comparison.rows[0]
         assert row.one and row.other
         closed = replace(row, other=replace(row.other, raw={**row.other.raw, "SATURATION": 999_999}))
-        self.assertEqual(cells_of(closed, "SATURATION", str)[2], "")
-        self.assertNotEqual(cells_of(closed, "DELAY", str)[2], "")
+        delay, saturation, _ = (pair.cells() for pair in closed.pairs)
+        self.assertEqual(saturation[1:], ("no green", ""))
+        self.assertNotEqual(delay[2], "")
 
     def test_a_page_needs_no_network(self) -> None:
         """No address but the name of SVG; its policy allows its own style sheet and script alone."""
@@ -285,14 +286,92 @@ class Pages(unittest.TestCase):
         with Session(support.THREE.replace("NODE 2 3", "NODE 2 9"), 1, PROGRAM) as town:
             text, other = page(self.town, town), page(town)
             figures = town.figures()
-        found = re.findall(r'<data value="([0-9]+)" class="AGAINST ([^"]*)">', text)
+        found = re.findall(r'<data value="([0-9]+)" class="AGAINST ([^"]*)"', text)
         self.assertIn((str(figures.index), "FIGURES TOTAL INDEX"), found)
         self.assertIn((str(figures.link(21).raw["DELAY"]), "FIGURES LINK 21 DELAY"), found)
         self.assertTrue(any(place == "TIMING NODE 2 STAGE 1 AT" for _, place in found))
         theirs = re.findall(r'<data value="([0-9]+)" class="([^"]*)"', other)
         self.assertEqual([one for one in found if one not in theirs], [])
         with Session(support.THREE, 1, PROGRAM) as town:
-            self.assertNotIn("AGAINST", page(self.town, town))
+            alike = page(self.town, town)
+        self.assertNotRegex(alike, 'class="(against|better|worse)')
+        self.assertEqual({int(raw) for raw in re.findall(r'value="([^"]*)" class="DIFFERENCE', alike)}, {0})
+
+    def test_each_figure_of_a_comparison_is_at_its_place(self) -> None:
+        """Of this plan, of the other, and the difference, with its formula and the two raw numbers in its title; no
+        number of the two tables stands outside."""
+        with Session(support.THREE.replace("NODE 2 3", "NODE 2 9"), 1, PROGRAM) as town:
+            text, figures, others = comparison_part(compared(self.town, town)), self.town.figures(), town.figures()
+        found = {place: (int(raw), formula) for raw, place, formula in
+                 re.findall(r'<data value="(-?[0-9]+)" class="([^"]*)"(?: title="([^"]*)")?>', text)}
+        lines = [(figures.total, others.total, ("DELAY", "STOPS", "INDEX"))]
+        lines += [(one, others.link(one.number), ("DELAY", "SATURATION", "QUEUE")) for one in figures.links]
+        for mine, its, words in lines:
+            for word in words:
+                place, one, other = mine.place(word), mine.raw[word], its.raw[word]
+                self.assertEqual((found[place][0], found[f"AGAINST {place}"][0]), (one, other))
+                difference, formula = found[f"DIFFERENCE {place}"]
+                self.assertEqual(difference, other - one)
+                self.assertIn(f"AGAINST {word} - {word}", formula)
+                self.assertIn(f"{other} - {one}", formula)
+        self.assertEqual(len(found), 9 * (1 + len(figures.links)))
+        self.assertEqual(re.findall(r'<td class="number">[^<]', text), [])
+        self.assertIn('title="(AGAINST DELAY - DELAY) / 10 = (', text)
+
+    def test_what_else_differs_is_at_its_place(self) -> None:
+        """A number of the frame in the deck of either plan."""
+        with Session(support.THREE.replace("1 60 100", "1 30 100"), 1, PROGRAM) as town:
+            text = comparison_part(compared(self.town, town))
+        self.assertIn('<li><bdi>period T, min</bdi>: <data value="60" class="DECK CYCLE 4">60</data> and '
+                      '<data value="30" class="AGAINST DECK CYCLE 4">30</data></li>', text)
+        self.assertNotIn("DIFFERENCE FIGURES TOTAL INDEX", text)
+
+    def test_a_difference_is_marked_as_it_is_shown(self) -> None:
+        """One that is 0 as shown isn't marked; a greater delay is worse, a less one better."""
+        (row, *_), delay = compared(self.town, self.town).rows, MEASURES[0]
+        assert row.one
+        for measure, more, kind in ((MEASURES[2], 40_000, None), (MEASURES[2], 60_000, "worse"), (delay, -1, "better"),
+                                    (delay, 0, None)):
+            raw = {**row.one.raw, measure.word: row.one.raw[measure.word] + more}
+            cell = pair_cells(Pair(measure, row.one, replace(row.one, raw=raw)))[2]
+            self.assertEqual(re.findall('class="(better|worse)"', cell), [kind] if kind else [])
+            self.assertIn(f'value="{more}" class="DIFFERENCE', cell)
+
+    def test_more_is_more_as_it_is_shown(self) -> None:
+        """3 steps of 7.5 s are longer than 3 of 5 s; the steps themselves are the same, and have none beside them."""
+        with Session(support.THREE.replace("CYCLE 60 12", "CYCLE 90 12"), 1, PROGRAM) as town:
+            text = page(self.town, town)
+        self.assertIn('<data value="3" class="TIMING NODE 2 STAGE 1 AT" title="AT × 60 s / 12">15</data> '
+                      '<span class="against more" title="the other plan"><data value="3" '
+                      'class="AGAINST TIMING NODE 2 STAGE 1 AT" title="AT × 90 s / 12">22.5</data></span>', text)
+        self.assertIn('<data value="3" class="TIMING NODE 2 STAGE 1 AT">3</data></td>', text)
+
+    def test_the_sizes_of_the_list(self) -> None:
+        """Each at its place in the STEPS card; another plan's list stands beside it as a whole."""
+        sizes = '<data value="1" class="DECK STEPS 2">1</data> <data value="3" class="DECK STEPS 3">3</data>'
+        self.assertIn(f"moves by steps of {sizes}, <data", page(self.town))
+        with Session(support.THREE.replace("STEPS 200 1 3", "STEPS 200 1 2 4"), 1, PROGRAM) as town:
+            text = page(self.town, town)
+        theirs = " ".join(f'<data value="{size}" class="AGAINST DECK STEPS {place}">{size}</data>'
+                          for place, size in ((2, 1), (3, 2), (4, 4)))
+        self.assertIn(f'{sizes} <span class="against" title="the other plan">{theirs}</span>, <data', text)
+
+    def test_how_either_plan_ended(self) -> None:
+        """One LOCAL, one that isn't, one without STEPS: the other's end is told as a whole; and its fullest link."""
+        with Session(support.THREE, 1, PROGRAM) as town:
+            town.climb().run()
+            text = page(self.town, town)
+        other = '<span class="against" title="the other plan">LOCAL: no listed move lowers INDEX</span>'
+        self.assertEqual(text.count(f"listed moves lower INDEX: the climb isn't over {other}"), 2)
+        with Session(support.THREE.replace("STEPS 200 1 3\n", ""), 1, PROGRAM) as town:
+            text = page(self.town, town)
+        self.assertIn('<span class="against" title="the other plan">the deck has no STEPS card</span>', text)
+        self.assertIn("moves by steps of", text)
+        with Session(support.THREE.replace("LINK 12 1 300", "LINK 12 1 900"), 1, PROGRAM) as town:
+            text = page(self.town, town)
+        self.assertNotEqual(self.town.figures().worst, 12)
+        self.assertIn('<span class="against" title="the other plan"><data value="12" class="AGAINST FIGURES TOTAL '
+                      'WORST">12</data> <bdi></bdi></span>', text)
 
     def test_derived_figures_have_their_formula(self) -> None:
         """In their titles; figures as they are printed have none."""

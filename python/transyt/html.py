@@ -3,6 +3,7 @@
 import base64
 import hashlib
 import re
+from decimal import Decimal, InvalidOperation
 from html import escape
 from typing import Dict, List, Sequence, Tuple
 
@@ -38,6 +39,7 @@ for (const table of document.querySelectorAll('table.sortable')) {
 
 
 FIGURE = re.compile(r'<data value="([^"]*)" class="([^"]*)"[^>]*>([^<]*)</data>')
+TITLED = re.compile(r'<data value="([^"]*)" class="([^"]*)"([^>]*)>([^<]*)</data>')  # with its title
 
 
 def text(words: str) -> str:
@@ -52,22 +54,47 @@ def figure(place: str, raw: int, shown: str, formula: str = "") -> str:
 
 
 def with_others(page: str, other: str) -> str:
-    """A page's figures, each with that of the same place on another page beside it where the two differ."""
-    others: Dict[str, List[Tuple[str, str]]] = {}
-    for raw, place, shown in FIGURE.findall(other):
-        others.setdefault(place, []).append((raw, shown))
+    """A page's figures, each with that of the same place on another page beside it where the two differ; it is marked
+    where the other is more or less as it is shown."""
+    others: Dict[str, List[Tuple[str, str, str]]] = {}
+    for raw, place, title, shown in TITLED.findall(other):
+        others.setdefault(place, []).append((raw, title, shown))
 
     def both(found: "re.Match[str]") -> str:
-        raw, place, shown = found.groups()
+        raw, place, title, shown = found.groups()
         there = others.get(place, [])
-        against, its = there.pop(0) if there else (raw, shown)
+        against, its_title, its = there.pop(0) if there else (raw, title, shown)
         if against == raw and its == shown:
             return found[0]
-        kind = "more" if int(against) > int(raw) else "less"
-        return (f'{found[0]} <span class="against {kind}" title="the other plan">'
-                f'<data value="{against}" class="AGAINST {place}">{its}</data></span>')
+        kind = more_or_less((raw, shown), (against, its))
+        return (f'{found[0]} <span class="against{kind}" title="the other plan">'
+                f'<data value="{against}" class="AGAINST {place}"{its_title}>{its}</data></span>')
 
-    return FIGURE.sub(both, page)
+    return TITLED.sub(both, page)
+
+
+def more_or_less(mine: Tuple[str, str], its: Tuple[str, str]) -> str:
+    """The mark of the other plan's figure, each raw and as it is shown: by what is shown, since a step may be longer in
+    one plan than in the other; by the raw values where that is no number, as `no green`."""
+    try:
+        one, other = Decimal(mine[1]), Decimal(its[1])
+    except InvalidOperation:
+        one, other = Decimal(mine[0]), Decimal(its[0])
+    return " more" if other > one else " less" if other < one else ""
+
+
+def beside(piece: str, other: str) -> str:
+    """A piece of a page, with that of another page as a whole beside it where the two differ: for what is no amount."""
+    if piece == other:
+        return piece
+    theirs = TITLED.sub(r'<data value="\1" class="AGAINST \2"\3>\4</data>', other)
+    return f'{piece} <span class="against" title="the other plan">{theirs}</span>'
+
+
+def paired(piece: str, other: str) -> str:
+    """A piece of a page with that of another page: figure by figure where they have the same words, else as a whole."""
+    same = FIGURE.sub(r"\2", piece) == FIGURE.sub(r"\2", other)
+    return with_others(piece, other) if same else beside(piece, other)
 
 
 def digest(text_of: str) -> str:

@@ -1,18 +1,20 @@
 """The page of a plan: one file that needs no network and no script, with the pictures, the figures and the tables.
 
 Each figure stands in a `<data>` with its raw value and its place in the report, as `FIGURES LINK 21 DELAY`. A place
-with a `+` is the sum of numbers, round the cycle where it is a time.
+with a `+` is the sum of numbers, round the cycle where it is a time. A place after `AGAINST` is one in the other plan's
+report; one after `DIFFERENCE` is the other plan's number less this plan's, and both stand in its title.
 """
 
-from typing import Callable, List, Optional, Sequence, Tuple
+from typing import Callable, List, Optional, Tuple
 
 from . import pictures
-from .comparing import DIFFERENT, Comparison, compared, heads, table_rows, totals_of
+from .comparing import DIFFERENT, Comparison, Differs, Pair, compared, heads
 from .deck import Deck
-from .html import document, figure, table, text, with_others
+from .html import beside, document, figure, paired, table, text, with_others
 from .pictures.source import Answers, Once
 from .report import Certificate, Line, LinkFigures, StageTiming
 
+Part = Callable[[Answers], str]
 METRES_A_VEHICLE = 6
 LEAST, LOWER = "the least INDEX of the MOVE lines", "MOVE lines with an INDEX below that of CERT"
 
@@ -24,31 +26,47 @@ def page(answers: Answers, against: Optional[Answers] = None, top: str = "", foo
     """
     answers, other = Once(answers), Once(against) if against is not None else None
 
-    def both(part: Callable[[Answers], str]) -> str:
-        return with_others(part(answers), part(other)) if other else part(answers)
+    def both(part: Part) -> str:
+        return joined(with_others, part, answers, other)
 
     deck = answers.deck()
     name = title or deck.names.town or "Signal plan"
-    parts = [f"<h1>{text(name)}</h1>", top, both(summary)]
+    parts = [f"<h1>{text(name)}</h1>", top, summary(answers, other)]
     if other:
         parts.append(comparison_part(compared(answers, other)))
     if pictures.routes_of(deck):
         parts += ["<h2>Road</h2>", pictures.road(answers)]
     parts += ["<h2>Signals</h2>", pictures.signals(answers), "<h2>Saturation</h2>", pictures.saturation(answers),
               "<h2>Links</h2>", both(links_table), "<h2>For the controllers</h2>", both(controller_table)]
-    if deck.climb_plan and (other is None or other.deck().climb_plan):
-        parts += ["<h2>Certificate</h2>", both(certificate_part)]
+    if deck.climb_plan:
+        parts += ["<h2>Certificate</h2>",
+                  certificate_part(answers, other if other and other.deck().climb_plan else None)]
     parts += ['<p class="small">Delay, queue, saturation, stops and INDEX are the program\'s; of each the page has the '
               "raw number and its place in the report. They hold for the model: docs/GUIDE.md says when not to trust "
               "it.</p>", foot]
     return document(name, "\n".join(part for part in parts if part))
 
 
-def summary(answers: Answers) -> str:
+def joined(way: Callable[[str, str], str], part: Part, answers: Answers, other: Optional[Answers]) -> str:
+    """A part of the page; where there is another plan, with its part in the way that is named."""
+    return way(part(answers), part(other)) if other else part(answers)
+
+
+def summary(answers: Answers, other: Optional[Answers] = None) -> str:
     """The frame, the totals, and how a climb would go on."""
-    deck, figures = answers.deck(), answers.figures()
-    frame, total = deck.frame, figures.total
-    worst = deck.names.links.get(figures.worst, "")
+    return ("<dl>" + joined(with_others, frame_and_totals, answers, other)
+            + described("Fullest link", joined(beside, fullest, answers, other))
+            + described("Ended", joined(paired, ended, answers, other)) + "</dl>")
+
+
+def described(name: str, value: str) -> str:
+    """A name and its value."""
+    return f"<dt>{name}</dt><dd>{value}</dd>"
+
+
+def frame_and_totals(answers: Answers) -> str:
+    """The frame, and the totals of FIGURES."""
+    frame, total = answers.deck().frame, answers.figures().total
     rows = [("Cycle", f"{figure('DECK CYCLE 1', frame.cycle, str(frame.cycle))} s in "
                       f"{figure('DECK CYCLE 2', frame.step_count, str(frame.step_count))} steps"),
             ("Period, sweeps", f"{figure('DECK CYCLE 4', frame.period, str(frame.period))} min, "
@@ -57,10 +75,20 @@ def summary(answers: Answers) -> str:
              f"hundredths of a second, {figure('DECK CYCLE 6', frame.dispersion, str(frame.dispersion))} %"),
             ("INDEX", figure(total.place("INDEX"), total.raw["INDEX"], str(total.raw["INDEX"]))),
             ("Delay", in_millions(total, "DELAY", 2) + " vehicle-hours in an hour"),
-            ("Stops", in_millions(total, "STOPS", 3) + " a second"),
-            ("Fullest link", f"{figure(total.place('WORST'), figures.worst, str(figures.worst))} {text(worst)}"),
-            ("Ended", ended_text(answers.certificate()) if deck.climb_plan else "the deck has no STEPS card")]
-    return "<dl>" + "".join(f"<dt>{name}</dt><dd>{value}</dd>" for name, value in rows) + "</dl>"
+            ("Stops", in_millions(total, "STOPS", 3) + " a second")]
+    return "".join(described(name, value) for name, value in rows)
+
+
+def fullest(answers: Answers) -> str:
+    """The link with the greatest degree of saturation, and its name."""
+    figures = answers.figures()
+    name = answers.deck().names.links.get(figures.worst, "")
+    return f"{figure(figures.total.place('WORST'), figures.worst, str(figures.worst))} {text(name)}"
+
+
+def ended(answers: Answers) -> str:
+    """How the climb to the plan ended, if it can be climbed."""
+    return ended_text(answers.certificate()) if answers.deck().climb_plan else "the deck has no STEPS card"
 
 
 def in_millions(total: Line, word: str, digits: int) -> str:
@@ -148,27 +176,43 @@ def seconds_formula(deck: Deck, place: str) -> str:
     return f"{steps} × {deck.frame.cycle} s / {count}"
 
 
-def certificate_part(answers: Answers) -> str:
-    """What the certificate says: how many moves, how many barred, whether one lowers the index."""
-    deck, certificate = answers.deck(), answers.certificate()
+def certificate_part(answers: Answers, other: Optional[Answers] = None) -> str:
+    """What the certificate says: how many moves by which sizes, how many barred, whether one lowers the index."""
+    return (f"<p>{joined(paired, ended, answers, other)}. {joined(with_others, places_text, answers, other)} moves by "
+            f"steps of {joined(beside, sizes_text, answers, other)}, "
+            f"{joined(paired, moves_text, answers, other)}. It says as much as the list.</p>")
+
+
+def places_text(answers: Answers) -> str:
+    """How many moves the list has."""
+    places = len(answers.certificate().moves)
+    return figure("CERT places", places, str(places), "MOVE lines")
+
+
+def sizes_text(answers: Answers) -> str:
+    """The step sizes of the list; the first number of STEPS is the budget."""
+    plan = answers.deck().climb_plan
+    return " ".join(figure(f"DECK STEPS {place}", size, str(size)) for place, size in enumerate(plan.sizes, 2)) \
+        if plan else ""
+
+
+def moves_text(answers: Answers) -> str:
+    """How many moves are barred, the index, and the least with a move."""
+    certificate = answers.certificate()
     indexes = [move.index for move in certificate.moves if move.index is not None]
-    sizes = " ".join(map(str, deck.climb_plan.sizes)) if deck.climb_plan else ""
-    least = ""
+    barred, least = len(certificate.moves) - len(indexes), ""
     if indexes:
         least = f"; the least with a move is {figure('CERT least', min(indexes), str(min(indexes)), LEAST)}"
-    places, barred = len(certificate.moves), len(certificate.moves) - len(indexes)
-    return (f"<p>{ended_text(certificate)}. "
-            f"{figure('CERT places', places, str(places), 'MOVE lines')} moves by steps of {sizes}, "
-            f"{figure('CERT barred', barred, str(barred), 'MOVE lines with BARRED')} of them barred; "
-            f"INDEX {figure('CERT INDEX', certificate.index, str(certificate.index))}{least}. "
-            "It says as much as the list.</p>")
+    return (f"{figure('CERT barred', barred, str(barred), 'MOVE lines with BARRED')} of them barred; "
+            f"INDEX {figure('CERT INDEX', certificate.index, str(certificate.index))}{least}")
 
 
 def comparison_part(comparison: Comparison) -> str:
     """The other plan's figures beside this one's."""
-    told = "".join(f"<li>{text(difference)}</li>" for difference in comparison.differences)
-    rows = [[cells[0], text(cells[1]), *marked(cells[2:])] for cells in table_rows(comparison)]
-    totals = [[text(name), one, other, signed(difference)] for name, one, other, difference in totals_of(comparison)]
+    told = "".join(f"<li>{differs_text(differs)}</li>" for differs in comparison.told)
+    rows = [[str(row.number), text(row.name), *(cell for pair in row.pairs for cell in pair_cells(pair))]
+            for row in comparison.rows]
+    totals = [[text(pair.measure.name), *pair_cells(pair)] for pair in comparison.totals]
     also = f"<p>Besides offsets and changes these differ:</p><ul>{told}</ul>" if told else ""
     return (f"<h2>Against the other plan</h2>{also}"
             + ("" if comparison.is_same_network else f'<p class="mark">{DIFFERENT}</p>')
@@ -176,12 +220,22 @@ def comparison_part(comparison: Comparison) -> str:
             + table(heads(), rows, len(heads()) - 2, "sortable"))
 
 
-def marked(cells: Sequence[str]) -> List[str]:
-    """Cells of a comparison, every third a difference."""
-    return [signed(cell) if place % 3 == 2 else cell for place, cell in enumerate(cells)]
+def differs_text(differs: Differs) -> str:
+    """What else differs between the decks, its numbers with their places."""
+    if not differs.place:
+        return text(differs.name)
+    return (f"{text(differs.name)}: {figure(differs.place, differs.one, str(differs.one))} and "
+            f"{figure(f'AGAINST {differs.place}', differs.other, str(differs.other))}")
 
 
-def signed(difference: str) -> str:
-    """A difference, marked by whether the other plan's number is greater."""
-    kind = "worse" if difference.startswith("+") else "better" if difference.startswith("-") else ""
-    return f'<span class="{kind}" title="against less this plan">{difference}</span>' if kind else difference
+def pair_cells(pair: Pair) -> List[str]:
+    """A figure of this plan and of the other, and the difference, which is marked where it isn't 0 as it is shown."""
+    shown, formula = pair.cells(), pair.measure.formula
+    cells = [figure(f"{plan}{line.place(pair.measure.word)}", line.raw[pair.measure.word], its, formula) if line else ""
+             for plan, line, its in (("", pair.one, shown[0]), ("AGAINST ", pair.other, shown[1]))]
+    if pair.one is None or pair.difference is None:
+        return [*cells, ""]
+    place = f"DIFFERENCE {pair.one.place(pair.measure.word)}"
+    difference = figure(place, pair.difference, shown[2], pair.difference_formula)
+    kind = "" if pair.is_nothing_as_shown else "worse" if pair.difference > 0 else "better"
+    return [*cells, f'<span class="{kind}">{difference}</span>' if kind else difference]

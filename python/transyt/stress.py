@@ -17,10 +17,10 @@ FACTORS = (Fraction(8, 10), Fraction(9, 10), Fraction(1), Fraction(11, 10), Frac
 
 @dataclass(frozen=True)
 class Row:
-    """A factor with the figures of the plan as it stands, and climbed anew; none where no card takes its flows."""
+    """A factor with the figures of the plan as it stands, and climbed anew; the latter None without a STEPS card."""
 
     factor: Fraction
-    standing: Optional[Figures]
+    standing: Figures
     climbed: Optional[Figures]
 
 
@@ -55,13 +55,15 @@ def read_factor(word: str) -> Fraction:
 
 def stressed(deck: Deck, factors: Sequence[Fraction], workers: int, program: Optional[str],
              tell: Callable[[str], None]) -> List[Row]:
-    """A row for each factor; one whose flows pass 9,999 is told and has no figures."""
+    """A row for each factor; one with which a flow passes 9,999 is told and left out. That a deck can't be climbed is
+    told too."""
     rows: List[Row] = []
+    if deck.climb_plan is None:
+        tell("the deck has no STEPS card, and so no moves to climb by: the plan is kept, and not climbed anew")
     for factor in factors:
         more = scaled(deck, factor)
         if not fits(more):
             tell(f"at {float(factor):g} a flow passes {MOST_FLOW:,} vehicles an hour, and so it is left out")
-            rows.append(Row(factor, None, None))
             continue
         with Session(more, workers, program) as session:
             standing = session.figures()

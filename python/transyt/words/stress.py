@@ -44,11 +44,12 @@ def run(args: argparse.Namespace) -> int:
     """Writes the table."""
     deck = read_deck_file(args.deck, args)
     factors = [read_factor(word) for word in args.factors] if args.factors else list(FACTORS)
-    table = [["flows", "INDEX", "vehicle-hours", "fullest", "climbed: INDEX", "vehicle-hours", "fullest"]]
     rows = stressed(deck, factors, args.workers, args.program, tell)
+    table = [["flows", "INDEX", "vehicle-hours", "fullest", "climbed: INDEX", "vehicle-hours", "fullest"]]
     table += [[f"{float(row.factor):.2f}", *cells(row.standing), *cells(row.climbed)] for row in rows]
     wide = [max(len(row[column]) for row in table) for column in range(len(table[0]))]
-    lines = ["  ".join(cell.rjust(wide[place]) for place, cell in enumerate(row)).rstrip() for row in table]
+    lines = ["  ".join(cell.rjust(wide[place]) for place, cell in enumerate(row)).rstrip() for row in table] \
+        if rows else []
     now = next((row.standing for row in rows if row.factor == 1), None)
     if now is None:
         with Session(deck, args.workers, args.program) as session:
