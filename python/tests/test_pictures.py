@@ -15,6 +15,7 @@ from transyt.faults import Fault
 from transyt.html import CSS, SCRIPT, digest
 from transyt.page import comparison_part, ended_text, page, pair_cells, seconds_text
 from transyt.pictures.climbing import looks_of
+from transyt.pictures.letters import width_of
 from transyt.pictures.roads import heights_of, lengths_of, to_scale
 from transyt.report import Certificate, Move, Step
 from transyt.edits import Edit
@@ -134,8 +135,8 @@ class Pictures(unittest.TestCase):
             near = [one for one in ats if one[1] == y and abs(one[0] - x) < 6.2 * len(shown) and one[2] != shown]
             self.assertEqual(near, [])
         captions = re.findall(r'class="of">([^<]*)<', svg)
-        self.assertEqual(len(captions), 3)
-        self.assertLess(max(map(len, captions)), 120)
+        self.assertEqual(len(captions), 2)
+        self.assertLess(11 * max(map(width_of, captions)), 736)
 
     def test_stop_lines_stand_at_their_distance(self) -> None:
         """By METRES where all are told, else by cruise times; to scale, or it is said that it isn't."""

@@ -13,7 +13,8 @@ from transyt import pictures
 from transyt.deck import Deck, read_deck
 from transyt.faults import Fault
 from transyt.pictures.climbing import drawn
-from transyt.pictures.svg import Drawing
+from transyt.pictures.letters import fitted, width_of, wrapped
+from transyt.pictures.svg import SMALLEST, Drawing
 from transyt.report import ClimbEnd
 from transyt.session import Session
 
@@ -49,6 +50,35 @@ class Texts(unittest.TestCase):
         read = "".join(ElementTree.fromstring(str(drawing)).itertext())
         for text in ("a \ufffd title", "\ufffd & <b>", "name\ufffd\x7f\ufffd\U0001f6a6\tend", "point \ufffd"):
             self.assertIn(text, read)
+
+    def test_widths_go_by_letter(self) -> None:
+        """Capitals and bold letters take more room; accents and marks of direction none; what isn't known much."""
+        self.assertLess(width_of("illicit"), width_of("wayward"))
+        for text in ("mill road", "MILL ROAD", "ЩУКИНО"):
+            self.assertLess(width_of(text), width_of(text, True))
+        self.assertEqual(width_of("\u2068é\u2069"), width_of("e"))
+        self.assertEqual(width_of("e\u0301"), width_of("e"))
+        self.assertGreater(width_of("\U0001f6a6"), width_of("W"))
+
+    def test_texts_are_cut_where_they_dont_fit(self) -> None:
+        """With dots; an isolated part stays isolated; lines are as wide as told."""
+        self.assertEqual(fitted("Mill Road", 9), "Mill Road")
+        self.assertEqual(fitted("6 \u2068WWWWWW\u2069", 4), "6 \u2068WW…\u2069")
+        self.assertEqual(fitted("6 \u2068WWWWWW\u2069", 2.5), "6…")
+        for text in ("COMMONWEALTH BOULEVARD SOUTH " * 9, "w" * 400, "Wimbledon Common Parkway " * 9):
+            self.assertLessEqual(max(map(width_of, wrapped(text, 60))), 60)
+
+    def test_labels_have_the_room_told(self) -> None:
+        """Smaller letters at first, then a cut, with the whole as title."""
+        name = "6 COMMONWEALTH BOULEVARD SOUTH"
+        for bold, width, whole in ((False, 194, True), (True, 230, True), (True, 194, False), (False, 30, False)):
+            drawing = Drawing("road", 20, "a title", "a caption")
+            drawing.words((0, 0), name, bold=bold, width=width)
+            found = re.search(r'font-size="([0-9.]+)"[^>]*>(?:<title>([^<]*)</title>)?([^<]*)</text>', drawing.parts[0])
+            assert found is not None
+            self.assertGreaterEqual(float(found[1]), SMALLEST)
+            self.assertLess(float(found[1]) * width_of(found[3], bold), width + 0.2)
+            self.assertEqual((found[2], found[3][-1]), (None, "H") if whole else (name, "…"))
 
 
 @needs_program

@@ -4,11 +4,13 @@ from typing import List, Tuple
 
 from ..deck import Deck
 from ..report import NodeTiming, StageTiming
+from .letters import width_of
 from .source import Answers, isolated, node_name, whose
 from .svg import CAN_GO, GREEN_EDGE, WIDE, Axis, Drawing, legend, seconds
 
 LEFT, BAR, LINE = 216.0, 20.0, 10.0  # the column of names, a bar's height, that of a line of ATs
-DIGIT = 6.2  # the width of a digit of an AT
+AT_SIZE = 10.0  # of an AT's digits
+ROOM_FOR_NAME = 30.0  # of a stage's green, so that some letters of its name are seen beside its number
 Mark = Tuple[float, str, int]  # where an AT stands, as it is shown, and its line: from 0 up above the bar, else below
 
 
@@ -36,7 +38,7 @@ def marks_of(deck: Deck, axis: Axis, node: NodeTiming) -> List[Mark]:
     ends = {line: -1e9 for line in (0, -1, 1, -2, 2, -3)}
     for at in sorted(stage.raw["AT"] * deck.frame.step_seconds for stage in node.stages):
         shown, x = seconds(at), axis.x(at)
-        half = DIGIT * len(shown) / 2
+        half = AT_SIZE * width_of(shown) / 2
         line = next((line for line, end in ends.items() if x - half > end), 3)
         ends[line] = x + half + 2
         marks.append((x, shown, line))
@@ -53,7 +55,7 @@ def draw_node(drawing: Drawing, deck: Deck, axis: Axis, row: Tuple[NodeTiming, L
     for x, shown, line in marks:
         high, low = top - 3 - LINE * max(line, 0), top + BAR + 3 + LINE * max(-1 - line, 0)
         drawing.line((x, high), (x, low), wide=1.4)
-        drawing.words((x, high - 2 if line >= 0 else low + 8), shown, "middle", size=10, kind="at",
+        drawing.words((x, high - 2 if line >= 0 else low + 8), shown, "middle", size=AT_SIZE, kind="at",
                       title=f"AT × {deck.frame.cycle} s / {deck.frame.step_count} steps")
     drawing.close()
 
@@ -74,9 +76,10 @@ def draw_stage(drawing: Drawing, deck: Deck, axis: Axis, which: Tuple[int, Stage
                         edge=GREEN_EDGE)
             if fill == CAN_GO:
                 widest = max(widest, (axis.wide((last - first) * step), axis.x(first * step)))
-    label = f"{stage.number} {isolated(name)}" if name else str(stage.number)
     if widest[0] >= 12:
-        drawing.words((widest[1] + 4, top + 14), label, size=11, width=widest[0] - 4, kind="label")
+        room = widest[0] - 6
+        label = f"{stage.number} {isolated(name)}" if name and room >= ROOM_FOR_NAME else str(stage.number)
+        drawing.words((widest[1] + 4, top + 14), label, size=11, width=room, kind="label")
 
 
 def parted(begin: int, length: int, count: int) -> Tuple[Tuple[int, int], ...]:

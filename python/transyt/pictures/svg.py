@@ -5,10 +5,11 @@ from typing import List, Optional, Sequence, Tuple
 from xml.sax import saxutils
 from xml.sax.saxutils import quoteattr
 
+from .letters import fitted, width_of, wrapped
+
 # Told apart by people who don't see red and green, and in grey print: from light to dark.
 CAN_GO, GREEN_EDGE, PALE, MIDDLE, QUEUE, FLOW, CANNOT, INK = (
     "#f4d35e", "#8a6d00", "#e9e9ee", "#b9bccb", "#d1603d", "#1b6ca8", "#4a4e69", "#1d1d26")
-LETTER, BOLD = 6.9, 7.6  # the width of a letter at size 12, of the wider fonts
 SMALLEST = 9.0  # size of a label
 WIDE = 760.0  # of a picture, so that its text is read on A4
 FORBIDDEN = re.compile("[^\t\n\r -\ud7ff\ue000-\ufffd\U00010000-\U0010ffff]")  # in XML, however they are written
@@ -37,16 +38,6 @@ def shortened(text: str, most: int) -> str:
     return cut + "\u2069" if "\u2068" in cut else cut
 
 
-def wrapped(text: str, most: int) -> List[str]:
-    """A text in lines of at most so many letters, cut at blanks; a longer word stands on a line of its own, cut."""
-    lines = [""]
-    for word in text.split(" "):
-        if lines[-1] and length_of(lines[-1]) + 1 + length_of(word) > most:
-            lines.append("")
-        lines[-1] += (" " if lines[-1] else "") + shortened(word, most)
-    return lines
-
-
 def seconds(value: float) -> str:
     """Seconds with at most three decimals."""
     return f"{value:.3f}".rstrip("0").rstrip(".")
@@ -62,7 +53,7 @@ class Drawing:
         self.data = ""  # what a script has to know of the picture, as attributes
 
     def __str__(self) -> str:
-        lines = wrapped(self.caption, int((WIDE - 24) / LETTER / 11 * 12))
+        lines = wrapped(self.caption, (WIDE - 24) / 11)
         high, wide = self.height + 10 + 14 * len(lines), number(WIDE)
         below = "".join(f'\n<text x="12" y="{number(self.height + 1 + 14 * place)}" font-size="11" fill="{INK}" '
                         f'class="of">{escape(line)}</text>' for place, line in enumerate(lines, 1))
@@ -115,10 +106,10 @@ class Drawing:
     def words(self, at: Tuple[float, float], text: str, anchor: str = "start", *, size: float = 12, bold: bool = False,
               width: Optional[float] = None, colour: str = INK, kind: str = "", title: str = "") -> None:
         """A text; where a width is told, smaller letters or a cut make it fit, and a cut one has the whole as title."""
-        shown, letter = text, (BOLD if bold else LETTER) / 12
+        shown = text
         if width is not None:
-            size = max(min(size, SMALLEST), min(size, width / letter / max(length_of(text), 1)))
-            shown = shortened(text, max(2, int(width / letter / size)))
+            size = max(min(size, SMALLEST), min(size, width / max(width_of(text, bold), 0.1)))
+            shown = fitted(text, width / size, bold)
         more = (f" class={quoteattr(kind)}" if kind else "") + (' font-weight="bold"' if bold else "")
         more += (f' font-size="{number(size)}"' if size != 12 else "")
         more += f' text-anchor="{anchor}"' if anchor != "start" else ""
@@ -191,4 +182,4 @@ def legend(drawing: Drawing, y: float, entries: Sequence[Tuple[str, str]]) -> No
         else:
             drawing.box((x, y - 10), (14, 11), fill, edge=MIDDLE)
         drawing.words((x + 19, y), text, size=11)
-        x += 33 + len(text) * 6.1
+        x += 33 + 11 * width_of(text)
