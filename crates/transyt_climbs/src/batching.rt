@@ -19,6 +19,9 @@ const MOST_JOINS: usize = 12;
 /// many long and short ones even out.
 const FEWEST_TURNS: usize = 24;
 
+/// So many climbs of each worker and fewer stand in one batch: in two they wouldn't even out.
+const ONE_BATCH: usize = 5;
+
 impl Deal {
     /// How many places each batch has where these are dealt batch by batch, the last perhaps fewer.
     fn batch_size(self) -> usize
@@ -29,6 +32,8 @@ impl Deal {
         }
         let turns = if self.workers == 1 {
             self.turns.div_ceil(MOST_BATCHES)
+        } else if self.turns <= ONE_BATCH {
+            self.turns
         } else {
             let few = FEWEST_TURNS.min(self.turns.div_ceil(2));
             self.turns.div_ceil(MOST_JOINS).max(few)
