@@ -15,7 +15,7 @@ from typing import Dict, List, Set, Tuple
 HERE = os.path.dirname(os.path.abspath(__file__))
 CRATES = os.path.join(HERE, "..", "crates")
 CLAUSES = {"headline": ("top.rt", ["IsRun", "word_of", "Rose", "report", "status"]),
-           "climbs": ("top.rt", ["ClimbDescends", "run_state"]),
+           "climbs": ("top.rt", ["ClimbDescends", "climb_of", "run_state"]),
            "program": ("given.rt", ["OverHeadline", "after_name"])}
 Definition = Tuple[str, int, List[str]]  # the name of the definition, its lines, its words
 Module = Tuple[Dict[str, str], Dict[str, Definition]]  # imports, each with its module; definitions by each name

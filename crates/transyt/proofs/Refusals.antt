@@ -13,7 +13,7 @@ use Rattle.transyt_line_answers.specs.declared.answer.Answer.{Answer}
 use Rattle.transyt_line_answers.specs.declared.answer.Answer.TheVariants as a
 use Rattle.transyt_line_answers.specs.Commands.{line_answer, session_after}
 use Rattle.transyt_line_answers.specs.Report.{RunState, InDeck, InSession, run_of, deck_ends}
-use Rattle.transyt_line_answers.specs.Report.{answer_ends, end_refused, deck_answering}
+use Rattle.transyt_line_answers.specs.Report.{answer_ends, end_refused, deck_answering, status}
 use Rattle.transyt.specs.Reports.{IsRefusedOrOpen, IsRefusedByDeck}
 
 abbrev is_refused : Deck → Bool
@@ -90,7 +90,7 @@ status_told false (Complete number net) h = (λ e. absurd (cc), λ e. absurd e)
 status_told false _ h = absurd (cc)
 
 -- the run of an input is refused exactly where its deck is refused or open
-pub refused_by_deck : (input : List ℕ) → IsRefusedByDeck input
+pub refused_by_deck : (input : List ℕ) → IsRefusedByDeck (status input) input
 refused_by_deck input =
     let answers = answers_by deck_answering (lines input) in
     status_told (refused_of deck_answering answers) (deck (lines input))

@@ -19,7 +19,7 @@ use Rattle.transyt_session.specs.Session.{SessionValue, net_with, net_before}
 use Rattle.transyt_climb.proofs.LocalLaws.{local_climb}
 use Rattle.transyt_line_answers.specs.declared.answer.Answer.{Answer}
 use Rattle.transyt_line_answers.specs.declared.answer.Answer.TheVariants as a
-use Rattle.transyt_line_answers.specs.Commands.{judged, said_judged, line_answer, line_judged, after_answer, budget_of}
+use Rattle.transyt_line_answers.specs.Commands.{judged, said_judged, line_answer, line_judged, after_answer, budget_of, climb_of}
 use Rattle.transyt_line_answers.specs.Report.{RunState, InDeck, InSession, run_of, run_after, run_state}
 use Rattle.transyt_line_answers.specs.Steps.{LeadDown}
 use Rattle.transyt_line_answers.proofs.StepLaws.{climb_leads}
@@ -94,7 +94,7 @@ lines_are : (state : RunState) (lines : List (List ℕ)) → IsValidRun state �
 lines_are state [] h = h
 lines_are state (line ∷ lines) h = lines_are (run_after state line) lines (line_is state line h)
 
-descends : (state : RunState) → IsValidRun state → ClimbDescends state
+descends : (state : RunState) → IsValidRun state → ClimbDescends climb_of state
 descends (InDeck deck) h = tt
 descends (InSession s) h =
     let budget = budget_of s.net.plan in
@@ -105,5 +105,5 @@ descends (InSession s) h =
     }
 
 -- a climb after any lines
-pub climb_descends : (before : List (List ℕ)) → ClimbDescends (run_state before)
+pub climb_descends : (before : List (List ℕ)) → ClimbDescends climb_of (run_state before)
 climb_descends before = descends (run_state before) (lines_are (InDeck start) before tt)

@@ -6,7 +6,6 @@ use Rattle.transyt_parts.specs.declared.stage_plan.PlanFault.TheVariants as faul
 use Rattle.transyt_parts.specs.Plan.{plan_fault}
 use Rattle.transyt_net.specs.declared.edit.EditFault.TheVariants.{LeastGreen}
 use Rattle.transyt_net.specs.Edits.{with_edit}
-use Rattle.transyt_sweep.specs.Climb.{climb}
 use Rattle.transyt_climb.specs.WorkedTurns.{idle, by_last}
 use Rattle.transyt_climb.proofs.WorkedLaws as turns
 use Rattle.transyt_line_answers.specs.Report.{InSession}
@@ -47,8 +46,11 @@ not_planned step =
     All-head (λ (n : NodeValue). plan_fault 10 n.stages ≡ None) short_node (with_edit by_last earlier.edit).nodes
     step.planned in absurd (cc)
 
--- the climb of a session is that by its network's plan
-pub session_climb : (work : ℕ)
-    → ClimbDescends (InSession (record { net = by_last; before = Some idle; work = work }))
-    → Descends by_last 7 (climb by_last 0 7)
-session_climb work down = down
+-- in a session, whose plan has a budget of seven looks
+pub session_descends : (work : ℕ)
+    → ClimbDescends (λ net. by_two) (InSession (record { net = by_last; before = Some idle; work = work }))
+session_descends work = two_descend
+
+pub session_lowers : (work : ℕ)
+    → ClimbDescends (λ net. at_once net 7) (InSession (record { net = by_last; before = Some idle; work = work })) → ⊥
+session_lowers work down = last_lowers down

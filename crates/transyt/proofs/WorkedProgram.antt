@@ -4,7 +4,8 @@ use Rattle.std.specs.Fmt.{digits}
 use Rattle.transyt_io.specs.Lines.{lines}
 use Rattle.transyt_io.specs.Streams.{Rose}
 use Rattle.transyt_io.specs.Forms.{filled, form_line}
-use Rattle.transyt_deck.specs.Deck.{deck}
+use Rattle.transyt_net.specs.Parts.{Network}
+use Rattle.transyt_deck.specs.Deck.{Deck, Complete, deck}
 use Rattle.transyt_outcome.specs.declared.status.Status.{Status}
 use Rattle.transyt_outcome.specs.declared.status.Status.TheVariants as s
 use Rattle.transyt_outcome.specs.Outcome.{exit_number}
@@ -146,11 +147,18 @@ task_refused = λ input left_is few. let left : Some no_card ≡ Some input = le
 pub task_other : TaskComplete (Reads reporting_run) (Some no_card) s.Done → ⊥
 task_other told = let wrong : s.Done ≡ s.DeckRefused = told no_card refl (omega arith) in absurd (cc)
 
--- a run is refused exactly where its deck is
-pub refused_deck : (input : List ℕ) → IsRefusedByDeck input → status input ≡ s.DeckRefused
-    → IsRefusedOrOpen (deck (lines input))
-refused_deck input is refused = is.0 refused
+-- a run is refused exactly where its deck is: of a line that is no card, and of any complete deck
+pub refused_card : IsRefusedByDeck s.DeckRefused no_card
+refused_card = (λ is. tt, λ is. refl)
 
-pub deck_refused : (input : List ℕ) → IsRefusedByDeck input → IsRefusedOrOpen (deck (lines input))
-    → status input ≡ s.DeckRefused
-deck_refused input is refused = is.1 refused
+pub done_card : IsRefusedByDeck s.Done no_card → ⊥
+done_card is = let wrong : s.Done ≡ s.DeckRefused = is.1 tt in absurd (cc)
+
+pub done_whole : (input : List ℕ) (number : ℕ) (net : Network) → deck (lines input) ≡ Complete number net
+    → IsRefusedByDeck s.Done input
+done_whole input number net whole =
+    (λ wrong. absurd (cc), λ refused. absurd (subst (λ (d : Deck). IsRefusedOrOpen d) whole refused))
+
+pub refused_whole : (input : List ℕ) (number : ℕ) (net : Network) → deck (lines input) ≡ Complete number net
+    → IsRefusedByDeck s.DeckRefused input → ⊥
+refused_whole input number net whole is = subst (λ (d : Deck). IsRefusedOrOpen d) whole (is.0 refl)

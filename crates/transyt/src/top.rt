@@ -1,6 +1,7 @@
 //! The top call.
 ghost use Rattle.std.specs.Prelude.{◌≡◌, ◌≢◌, ◌≤◌, ◌++◌, ◌↔◌, ℕ, List, Some, None, length, map, string_bytes, IfSome};
 ghost use Rattle.transyt_io.specs.Streams.{Rose};
+ghost use Rattle.transyt_line_answers.specs.Commands.{climb_of};
 ghost use Rattle.transyt_line_answers.specs.Report.{report, status, run_state};
 ghost use Rattle.transyt.specs.Reports.{ClimbDescends};
 ghost use Rattle.transyt.specs.Tasks.{TaskOutcome, TaskHeadline, TaskComplete, TaskTooLong, IsWriting};
@@ -57,7 +58,7 @@ pub fn transyt<R: Threads + Sync, S: Source, K: Sink, G: Gate, L: Ledger>(
         → (K.written sink.new ≡ Some (held ++ report input)) × (result ≡ status input) }
     // a climb of the report, on what any lines have come to: each step strictly lowers the index within every least
     // green and intergreen; it ends LOCAL where no listed move lowers the index, or BUDGET where the budget is spent
-    ensures climbs { (before : List (List ℕ)) → ClimbDescends (run_state before) }
+    ensures climbs { (before : List (List ℕ)) → ClimbDescends climb_of (run_state before) }
     // with any words that the program takes: what they ask for
     ensures told { result ≢ Status.NoMemory
         → (Rose (S.faults source.old) (S.faults source.new) → ⊥)

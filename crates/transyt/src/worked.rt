@@ -4,11 +4,10 @@ ghost use Rattle.std.specs.declared.io.ErrorKind.{ErrorKind};
 ghost use Rattle.transyt_io.specs.Lines.{lines};
 ghost use Rattle.transyt_net.specs.Parts.{Network};
 ghost use Rattle.transyt_deck.specs.Deck.{Complete, deck};
-ghost use Rattle.transyt_sweep.specs.Climb.{climb};
 ghost use Rattle.transyt_climb.specs.WorkedTurns.{idle, by_last};
 ghost use Rattle.transyt_outcome.specs.declared.status.Status.{Status};
 ghost use Rattle.transyt_outcome.specs.WorkedOutcomes.{Each};
-ghost use Rattle.transyt_line_answers.specs.Report.{InSession, reporting_run, status};
+ghost use Rattle.transyt_line_answers.specs.Report.{InSession, reporting_run};
 ghost use Rattle.transyt_line_answers.specs.Steps.{IsLowering};
 ghost use Rattle.transyt_line_answers.specs.WorkedLowering.{earlier};
 ghost use Rattle.transyt.specs.Program.{ArgsRan, OverHeadline, OverRan, ProgramHeadline, ProgramRan, after_name};
@@ -63,7 +62,7 @@ pub fn worked_calls()
 
 /// What words that read ask for is the report after what the sink held, with its status, which for `run` is a refusal
 /// exactly where the deck is refused or open.
-#[tactic(auto, using(crate::proofs::WorkedProgram::task_said, crate::proofs::WorkedProgram::task_lost, crate::proofs::WorkedProgram::task_done, crate::proofs::WorkedProgram::task_refused, crate::proofs::WorkedProgram::task_other, crate::proofs::WorkedProgram::refused_deck, crate::proofs::WorkedProgram::deck_refused))]
+#[tactic(auto, using(crate::proofs::WorkedProgram::task_said, crate::proofs::WorkedProgram::task_lost, crate::proofs::WorkedProgram::task_done, crate::proofs::WorkedProgram::task_refused, crate::proofs::WorkedProgram::task_other, crate::proofs::WorkedProgram::refused_card, crate::proofs::WorkedProgram::done_card, crate::proofs::WorkedProgram::done_whole, crate::proofs::WorkedProgram::refused_whole))]
 pub fn worked_refusals()
     ensures said { TaskHeadline (Reads reporting_run) (Some no_card) (Some held)
         (Some (held ++ refusal)) Status.DeckRefused }
@@ -73,10 +72,13 @@ pub fn worked_refusals()
         (Some (held ++ refusal)) Status.Done → ⊥ }
     ensures complete { TaskComplete (Reads reporting_run) (Some no_card) Status.DeckRefused }
     ensures complete_done { TaskComplete (Reads reporting_run) (Some no_card) Status.Done → ⊥ }
-    ensures by_status { (input : List ℕ) → IsRefusedByDeck input
-        → status input ≡ Status.DeckRefused → IsRefusedOrOpen (deck (lines input)) }
-    ensures by_deck { (input : List ℕ) → IsRefusedByDeck input
-        → IsRefusedOrOpen (deck (lines input)) → status input ≡ Status.DeckRefused }
+    ensures refused_card { IsRefusedByDeck Status.DeckRefused no_card }
+    ensures done_card { IsRefusedByDeck Status.Done no_card → ⊥ }
+    ensures done_whole { (input : List ℕ) (number : ℕ) (net : Network)
+        → deck (lines input) ≡ Complete number net → IsRefusedByDeck Status.Done input }
+    ensures refused_whole { (input : List ℕ) (number : ℕ) (net : Network)
+        → deck (lines input) ≡ Complete number net
+        → IsRefusedByDeck Status.DeckRefused input → ⊥ }
     ensures card { IsRefusedOrOpen (deck (lines no_card)) }
     ensures open_yet { IsRefusedOrOpen (deck []) }
     ensures whole { (number : ℕ) (net : Network) → IsRefusedOrOpen (Complete number net) → ⊥ }
@@ -85,7 +87,7 @@ pub fn worked_refusals()
 /// A climb descends by steps of which each is allowed and lowers the index, to the network after all of them; at LOCAL
 /// no move lowers it, and at BUDGET all looks were taken. A barred move is no step, nor one after which a plan isn't
 /// allowed.
-#[tactic(auto, using(crate::proofs::WorkedClimbs::two_descend, crate::proofs::WorkedClimbs::first_last, crate::proofs::WorkedClimbs::stays_then, crate::proofs::WorkedClimbs::two_of_eight, crate::proofs::WorkedClimbs::idle_local, crate::proofs::WorkedClimbs::last_lowers, crate::proofs::WorkedClimbs::barred_move, crate::proofs::WorkedClimbs::not_planned, crate::proofs::WorkedClimbs::session_climb))]
+#[tactic(auto, using(crate::proofs::WorkedClimbs::two_descend, crate::proofs::WorkedClimbs::first_last, crate::proofs::WorkedClimbs::stays_then, crate::proofs::WorkedClimbs::two_of_eight, crate::proofs::WorkedClimbs::idle_local, crate::proofs::WorkedClimbs::last_lowers, crate::proofs::WorkedClimbs::barred_move, crate::proofs::WorkedClimbs::not_planned, crate::proofs::WorkedClimbs::session_descends, crate::proofs::WorkedClimbs::session_lowers))]
 pub fn worked_climbs()
     ensures steps { Descends by_last 7 by_two }
     ensures other_net { Descends by_last 7 to_first → ⊥ }
@@ -95,7 +97,8 @@ pub fn worked_climbs()
     ensures not_local { Descends by_last 7 (at_once by_last 7) → ⊥ }
     ensures barred { IsLowering barred earlier → ⊥ }
     ensures unplanned { IsLowering unplanned earlier_there → ⊥ }
-    ensures session { (work : ℕ)
-        → ClimbDescends (InSession (record { net = by_last; before = Some idle; work = work }))
-        → Descends by_last 7 (climb by_last 0 7) }
+    ensures session { (work : ℕ) → ClimbDescends (λ net. by_two)
+        (InSession (record { net = by_last; before = Some idle; work = work })) }
+    ensures session_lowers { (work : ℕ) → ClimbDescends (λ net. at_once net 7)
+        (InSession (record { net = by_last; before = Some idle; work = work })) → ⊥ }
 {}
