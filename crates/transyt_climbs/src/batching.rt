@@ -20,7 +20,7 @@ const MOST_JOINS: usize = 12;
 const FEWEST_TURNS: usize = 24;
 
 /// So many climbs of each worker and fewer stand in one batch: in two they wouldn't even out.
-const ONE_BATCH: usize = 5;
+const ONE_BATCH: usize = 3;
 
 impl Deal {
     /// How many places each batch has where these are dealt batch by batch, the last perhaps fewer.
